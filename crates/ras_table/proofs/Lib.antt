@@ -1,0 +1,5 @@
+pub mod NamesLemmas
+pub mod RowsLemmas
+pub mod RecordsLemmas
+pub mod NameTexts
+pub mod RecordSizes
