@@ -1,0 +1,4 @@
+pub mod HomesLemmas
+pub mod LinesLemmas
+pub mod RegionLemmas
+pub mod BoundsLemmas
