@@ -1,0 +1,3 @@
+pub mod ShapesLemmas
+pub mod LimitsLemmas
+pub mod ReadLemmas

@@ -1,0 +1,6 @@
+pub mod Members
+pub mod RequestsRule
+pub mod Shapes
+pub mod Drafts
+pub mod Within
+pub mod Requested
