@@ -1,0 +1,9 @@
+pub mod Rows
+pub mod SumLemmas
+pub mod NumberLemmas
+pub mod CaseFacts
+pub mod AllowedLaws
+pub mod PartSums
+pub mod JoinLemmas
+pub mod JoinRule
+pub mod JoinedOnce

@@ -1,0 +1,11 @@
+pub mod CaseRule
+pub mod CaseLimits
+pub mod Units
+pub mod Allowed
+pub mod Costs
+pub mod Rack
+pub mod Levels
+pub mod Chosen
+pub mod Joined
+pub mod Examples
+pub mod Laws
