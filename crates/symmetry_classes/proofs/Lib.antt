@@ -1,0 +1,5 @@
+pub mod Partition
+pub mod SameClass
+pub mod FirstOfEach
+pub mod KeyLaws
+pub mod Found
