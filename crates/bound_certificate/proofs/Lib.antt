@@ -1,0 +1,15 @@
+pub mod RuleFacts
+pub mod Integers
+pub mod Wide
+pub mod Taken
+pub mod Combined
+pub mod SumBelow
+pub mod Duality
+pub mod LeafBound
+pub mod Rules
+pub mod TreeBound
+pub mod Total
+pub mod WalkSteps
+pub mod WorkedRows
+pub mod ShownPoints
+pub mod ShownSteps
