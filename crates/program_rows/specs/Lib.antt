@@ -1,0 +1,11 @@
+pub mod Settings
+pub mod Programs
+pub mod Choice
+pub mod Members
+pub mod Phases
+pub mod Reach
+pub mod Sums
+pub mod Bases
+pub mod Sizes
+pub mod Accepted
+pub mod Worked
