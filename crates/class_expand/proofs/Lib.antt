@@ -1,0 +1,15 @@
+pub mod HelperRows
+pub mod Points
+pub mod HelperCosts
+pub mod Tops
+pub mod Numbers
+pub mod ClassCounts
+pub mod WholePoint
+pub mod Back
+pub mod Phases
+pub mod Chosen
+pub mod Dealings
+pub mod Expansions
+pub mod Started
+pub mod PartMost
+pub mod Counted

@@ -1,0 +1,4 @@
+pub mod Lifting
+pub mod Laws
+pub mod PhaseLaws
+pub mod Dealing
