@@ -1,0 +1,10 @@
+pub mod Numbers
+pub mod Shapes
+pub mod Seen
+pub mod Faults
+pub mod Members
+pub mod Parts
+pub mod Documents
+pub mod Written
+pub mod Writable
+pub mod Sizes

@@ -1,0 +1,22 @@
+//! Plan documents: JSON texts that state a plan and what shows how good it is.
+//!
+//! `read_document` gives the document that bytes are, or the first fault with its place. `write_document` gives the text
+//! of a document, and what was written is read again.
+#![tactic(auto)]
+
+mod document;
+mod fault;
+mod node;
+mod numbers;
+mod part;
+mod shape;
+mod write;
+
+pub use document::{Answer, Document, read_document};
+pub use fault::{DocFault, DocPlace, DocWhy};
+pub use part::{Part, Planned, RackPart};
+pub use shape::{Cut, Fractions, Pair, Shape, Weights};
+pub use write::write_document;
+
+#[cfg(test)]
+mod tests;
