@@ -1,0 +1,5 @@
+pub mod Reasons
+pub mod Shape
+pub mod Headline
+pub mod Laws
+pub mod Accepted
