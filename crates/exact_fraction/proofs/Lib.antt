@@ -1,0 +1,10 @@
+pub mod Coprime
+pub mod Quotients
+pub mod Ring
+pub mod Parts
+pub mod Mixes
+pub mod Others
+pub mod Compares
+pub mod SignedCompares
+pub mod Fast
+pub mod LawLemmas
