@@ -1,0 +1,41 @@
+-- Where a part of a pivot does not fit, the pivot does not.
+use Rattle.std.proofs.Common.{◌≡◌, ◌≢◌, ℕ, zero, suc, ◌+◌, ◌<◌, ◌≤◌, pos, refl, sym, subst, ◌∙◌, arith, Bool, true, false, ◌==◌, List, length, Option, Some, None, Result, Ok, Err, IfOk, IfNone, ap, ◌⊎◌, inl, inr}
+use Rattle.std.proofs.lemmas.Bool.Decides.{eqb_tells}
+use Rattle.exact_fraction.specs.declared.fraction.Fraction.{Fraction}
+use Rattle.exact_simplex.specs.Cells.{cell_of, row_of}
+use Rattle.exact_simplex.specs.Pivots.{IsQuotient, QuotientFits, CellFits, RowFits, PivotFits}
+use Rattle.exact_simplex.specs.Changes.{ShareFor, AreShares, SharesFit, CellForFits, RowAfterFits, ChangeFits, ChangesFit}
+
+pub other_number : (c k : ℕ) → (c == k) ≡ false → c ≢ k
+other_number c k h same =
+    elim (eqb_tells c k) [
+      | inl x ↦ (let e = sym h ∙ x.0 in cc)
+      | inr x ↦ x.1 same
+    ]
+
+pub shares_fit : (cells : List (List Fraction)) (r k : ℕ) → PivotFits cells r k → SharesFit (row_of cells r) k (cell_of (row_of cells r) k)
+shares_fit cells r k h = record { at = λ c p other. h.shares c p (other_number c k other) }
+
+cell_fits : (row pivot_row shares : List Fraction) (k c : ℕ) (own : Bool) → (c == k) ≡ own → c < length row → RowFits row pivot_row k → ShareFor own (cell_of shares c) (cell_of pivot_row c) (cell_of pivot_row k) → CellForFits own (cell_of row c) (cell_of row k) (cell_of shares c) (cell_of pivot_row k)
+cell_fits row pivot_row shares k c true own p h is = h.own
+cell_fits row pivot_row shares k c false own p h is = h.others c (cell_of shares c) p (other_number c k own) is
+
+row_fits : (row pivot_row shares : List Fraction) (k : ℕ) → length row ≡ length pivot_row → AreShares shares pivot_row k (cell_of pivot_row k) → RowFits row pivot_row k → RowAfterFits row shares k (cell_of pivot_row k)
+row_fits row pivot_row shares k size are h = record { at = λ c p. cell_fits row pivot_row shares k c (c == k) refl p h (are.at c (omega arith)) }
+
+change_fits : (cells : List (List Fraction)) (shares : List Fraction) (r k i : ℕ) (own : Bool) → (i == r) ≡ own → i < length cells → length (row_of cells i) ≡ length (row_of cells r) → AreShares shares (row_of cells r) k (cell_of (row_of cells r) k) → PivotFits cells r k → ChangeFits own (row_of cells i) shares k (cell_of (row_of cells r) k)
+change_fits cells shares r k i true own p size are h = tt
+change_fits cells shares r k i false own p size are h = λ some. row_fits (row_of cells i) (row_of cells r) shares k size are (h.rows i p (other_number i r own) some)
+
+pub changes_fit : (cells : List (List Fraction)) (shares : List Fraction) (r k : ℕ) → ((i : ℕ) → i < length cells → length (row_of cells i) ≡ length (row_of cells r)) → AreShares shares (row_of cells r) k (cell_of (row_of cells r) k) → PivotFits cells r k → ChangesFit cells r shares k (cell_of (row_of cells r) k)
+changes_fit cells shares r k sizes are h = record { at = λ i p. change_fits cells shares r k i (i == r) refl p (sizes i p) are h }
+
+pub changes_at : (cells : List (List Fraction)) (shares row : List Fraction) (pivot : Fraction) (r k : ℕ) → row ≡ row_of cells r → pivot ≡ cell_of row k → ((i : ℕ) → i < length cells → length (row_of cells i) ≡ length (row_of cells r)) → AreShares shares row k pivot → PivotFits cells r k → ChangesFit cells r shares k pivot
+changes_at cells shares row pivot r k is_row is_pivot sizes are h =
+    let same : pivot ≡ cell_of (row_of cells r) k = is_pivot ∙ ap (λ xs. cell_of xs k) is_row in
+    subst (λ p. ChangesFit cells r shares k p) (sym same) (changes_fit cells shares r k sizes (subst (λ xs. AreShares shares xs k (cell_of (row_of cells r) k)) is_row (subst (λ p. AreShares shares row k p) same are)) h)
+
+pub none_of : {X E : Type 0} (A B : Type 0) (found : Result (Option X) E) → (A → B) → IfOk found (λ f. IfNone f (B → ⊥)) → IfOk found (λ f. IfNone f (A → ⊥))
+none_of A B (Ok None) f h = λ a. h (f a)
+none_of A B (Ok (Some x)) f h = h
+none_of A B (Err e) f h = h

@@ -1,0 +1,19 @@
+-- When certificate multipliers stand for weights of the rows.
+use Rattle.std.specs.Prelude.{ℕ, ◌≡◌, ◌+◌, ◌<◌, ◌≤◌, List, [], ◌∷◌, ℤ, pos, ◌*ℤ◌, if◌then◌else◌, ◌==◌, All}
+use Rattle.bound_certificate.specs.declared.multipliers.Top.{Top}
+use Rattle.bound_certificate.specs.Rising.{KeepsRange}
+
+-- the numerator of row i, 0 where it is not listed
+abbrev pub num_at : List Top → ℕ → ℕ
+num_at [] i = 0
+num_at (top ∷ tops) i = (if i == top.row then top.num else 0) + num_at tops i
+
+-- the numerators over den are the weights over scale
+pub record AreWeights (rows : ℕ) (den scale : ℕ) (tops : List Top) (weight : ℕ → ℤ) : Type 0 where
+  pub there : All (λ top. top.row < rows) tops
+  pub nums : (i : ℕ) → i < rows → pos (num_at tops i) *ℤ pos scale ≡ pos den *ℤ weight i
+
+-- multipliers of rows below n, within their limits
+pub record IsListed (den : ℕ) (tops : List Top) (n : ℕ) : Type 0 where
+  pub range : KeepsRange den tops
+  pub below : All (λ top. top.row < n) tops

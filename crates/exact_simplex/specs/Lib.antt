@@ -1,0 +1,13 @@
+pub mod Tableaus
+pub mod Forms
+pub mod Duals
+pub mod Start
+pub mod Cells
+pub mod Pivots
+pub mod Changes
+pub mod Shapes
+pub mod Beginning
+pub mod Choices
+pub mod Relaxing
+pub mod Answers
+pub mod Laws

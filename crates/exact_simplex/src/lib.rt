@@ -1,0 +1,24 @@
+//! The relaxation of a program, by the written simplex method.
+#![tactic(auto)]
+
+mod advance;
+mod calls;
+mod laws;
+mod lows;
+mod multiples;
+mod numbers;
+mod picks;
+mod point;
+mod relaxed;
+mod rows;
+mod run;
+mod start;
+mod state;
+mod table;
+#[cfg(test)]
+mod tests;
+
+pub use laws::pivots_raise;
+pub use relaxed::Relaxed;
+pub use run::relax;
+pub use table::Tableau;
