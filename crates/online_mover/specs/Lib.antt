@@ -1,0 +1,11 @@
+pub mod Without
+pub mod Sums
+pub mod States
+pub mod Commands
+pub mod Causes
+pub mod Events
+pub mod Changes
+pub mod Steps
+pub mod StepLaws
+pub mod EventRows
+pub mod EventFiles
