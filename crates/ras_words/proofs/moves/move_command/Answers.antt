@@ -1,0 +1,10 @@
+use Rattle.std.proofs.Common.{◌∙◌, ap₂}
+use Rattle.std.proofs.lemmas.Result.{IfOk-weaker}
+use Rattle.clap.specs.Words.{with_rule}
+use Rattle.ras_words.proofs.moves.move_command.Goals as goal
+
+pub returns : goal.returns
+returns c =
+    let one = c.in_ok-arg.ensures.shape c.needed-plan.ensures.local ∙ ap₂ with_rule c.in_ok-files_command.ensures c.needed-plan.ensures.rule in
+    let two = c.in_ok-arg-2.ensures.shape c.needed-events.ensures.local ∙ ap₂ with_rule one c.needed-events.ensures.rule in
+    IfOk-weaker c.arg-3.result _ _ (λ r h. h.shape c.at_once_option-at_once.ensures.local ∙ ap₂ with_rule two c.at_once_option-at_once.ensures.rule) c.arg-3.ensures

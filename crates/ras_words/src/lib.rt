@@ -1,0 +1,13 @@
+//! The words of the command lines, by the definition that the reader of command lines has of a simple command.
+#![tactic(auto)]
+
+mod check;
+mod command;
+mod matches;
+mod moves;
+mod read;
+mod sample;
+mod solve;
+
+pub use command::{CheckWords, Command, MoveWords, SampleWords, SolveWords, WordsFault};
+pub use read::read_words;
