@@ -1,0 +1,4 @@
+pub mod CheckLemmas
+pub mod InputLemmas
+pub mod JoinLemmas
+pub mod ShapeLemmas

@@ -1,0 +1,93 @@
+ghost use Rattle.std.specs.Prelude.{◌≡◌, ◌≤◌, ◌*◌, ◌^◌, ◌++◌, codes, IfOk, IfSome, MatchResult, None, length, string_bytes};
+ghost use Rattle.ras_table.specs.Answers.{Gives};
+ghost use Rattle.ras_inventory.specs.RegionRule.{server_names};
+ghost use Rattle.ras_inventory.specs.Regions.{seen as seen_region};
+ghost use Rattle.ras_requests.specs.RequestsRule.{reservation_names};
+ghost use Rattle.ras_requests.specs.Requested.{seen as seen_requests};
+ghost use Rattle.plan_document.specs.Documents.{seen_document};
+ghost use Rattle.ras_answers.specs.Inputs.{bindings_read, document_read, inventory_read, requests_read, told};
+
+use plan_document::{DocFault, Document, read_document};
+use ras_inventory::{Bindings, BindingsFault, Region, RegionFault, read_bindings, read_region};
+use ras_requests::{Requests, RequestsFault, read_requests};
+use ras_texts::{bindings_note, document_note, region_note, requests_note};
+use std::alloc::{AllocError, Global};
+use thiserror::Error;
+
+/// Why files were not read.
+#[derive(Debug, Drop, Error)]
+pub enum InputFault {
+    /// A file is not valid. The note on its first fault, which ends with a line feed.
+    #[error("{0}")]
+    Invalid(String),
+    /// Memory ran out.
+    #[error("out of memory")]
+    Memory,
+}
+
+// A note as a line.
+fn line_of(note: Result<String, AllocError>) -> InputFault
+    ensures { MatchResult note (λ text. IfSome (told result) (λ line. line ≡ string_bytes text ++ codes "\n")) (λ _. told result ≡ None) }
+{
+    let Ok(mut line) = note else {
+        return InputFault::Memory;
+    };
+    match line.push_str("\n") {
+        Ok(()) => InputFault::Invalid(line),
+        Err(_) => InputFault::Memory,
+    }
+}
+
+/// The region of an inventory, or the note on its first fault.
+pub fn region_in(alloc: Global, bytes: &[u8]) -> Result<Region, InputFault>
+    requires { length bytes.now ≤ 64 * 2 ^ 20 }
+    ensures { Gives seen_region told result (inventory_read bytes.now) }
+{
+    match read_region(alloc, bytes) {
+        Ok(region) => Ok(region),
+        Err(RegionFault::At { line, why }) => Err(line_of(region_note(alloc, line, &why))),
+        Err(RegionFault::Memory) => Err(InputFault::Memory),
+    }
+}
+
+/// The requests of a file, or the note on its first fault.
+pub fn requests_in(alloc: Global, bytes: &[u8]) -> Result<Requests, InputFault>
+    requires { length bytes.now ≤ 64 * 2 ^ 20 }
+    ensures { Gives seen_requests told result (requests_read bytes.now) }
+{
+    match read_requests(alloc, bytes) {
+        Ok(requests) => Ok(requests),
+        Err(RequestsFault::At { place, why }) => Err(line_of(requests_note(alloc, place, why))),
+        Err(RequestsFault::Memory) => Err(InputFault::Memory),
+    }
+}
+
+/// The bindings of a file over a region, or the note on their first fault.
+pub fn bindings_in(alloc: Global, region: &Region, bytes: &[u8]) -> Result<Bindings, InputFault>
+    requires { length bytes.now ≤ 64 * 2 ^ 20 }
+    ensures bindings { Gives (λ bindings. bindings.of) told result (bindings_read (server_names region.now.servers) bytes.now) }
+    ensures each { IfOk result (λ bindings. length bindings.of ≡ length region.now.servers) }
+{
+    match read_bindings(alloc, region, bytes) {
+        Ok(bindings) => Ok(bindings),
+        Err(BindingsFault::At { line, why }) => Err(line_of(bindings_note(alloc, line, &why))),
+        Err(BindingsFault::Memory) => Err(InputFault::Memory),
+    }
+}
+
+/// The document of a file over a region and requests, or the note on its first fault.
+pub fn document_in(
+    alloc: Global,
+    region: &Region,
+    requests: &Requests,
+    bytes: &[u8],
+) -> Result<Document, InputFault>
+    requires { length bytes.now ≤ 64 * 2 ^ 20 }
+    ensures { Gives seen_document told result (document_read (server_names region.now.servers) (reservation_names requests.now.list) bytes.now) }
+{
+    match read_document(alloc, region, requests, bytes) {
+        Ok(document) => Ok(document),
+        Err(DocFault::At { place, why }) => Err(line_of(document_note(alloc, place, why))),
+        Err(DocFault::Memory) => Err(InputFault::Memory),
+    }
+}
