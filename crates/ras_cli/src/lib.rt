@@ -1,0 +1,10 @@
+//! The top call: from the words of a command line, a shelf and two sinks to a status.
+#![tactic(auto)]
+
+mod deliver;
+mod files;
+mod note;
+mod output;
+mod top;
+
+pub use top::run;

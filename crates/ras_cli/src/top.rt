@@ -1,0 +1,137 @@
+ghost use Rattle.std.specs.Prelude.{◌≡◌, ◌≢◌, ◌≤◌, ◌⊎◌, codes, true, false, None, Some, Err, IfOk, IsErrOf};
+ghost use Rattle.std.specs.Io.KnownBytes.{Appends};
+ghost use Rattle.ras_outside.specs.Causes.{Rose, RoseBy, AppendsSome};
+ghost use Rattle.ras_words.specs.Rows.{Refused};
+ghost use Rattle.ras_words.specs.Words.{command_of};
+ghost use Rattle.ras_words.specs.declared.command.Command.TheVariants as command;
+ghost use Rattle.ras_answers.specs.Answered.{seen};
+ghost use Rattle.ras_cli.specs.Asked.{BreaksHeld, LongerHeld, asked_of, files_asked, files_of};
+ghost use Rattle.ras_cli.specs.Runs.{AtAnswer, Tells, is_printed, note_of, status_of, text_of};
+
+use crate::deliver::deliver;
+use crate::files::read_check_files;
+use crate::note::{tell, tell_fault};
+use ras_answers::{Answer, check_answer};
+use ras_outside::{Shelf, ShelfFault, Sink};
+use ras_table::{List, Word};
+use ras_words::{CheckWords, Command, WordsFault, read_words};
+use std::alloc::Global;
+
+// What `check` answers to the files that it reads.
+fn answer_check<S: Shelf>(
+    alloc: Global,
+    words: &CheckWords,
+    shelf: &mut S,
+) -> Result<Answer, ShelfFault>
+    ensures answer { IfOk result (λ a. AtAnswer (S.held shelf.old) (Some (command.Check words.now)) (λ answer. seen a ≡ answer)) }
+    ensures failed { IsErrOf result ShelfFault.Failed → Rose (S.faults shelf.old) (S.faults shelf.new) }
+    ensures broke { IsErrOf result ShelfFault.Failed → BreaksHeld (S.held shelf.old) (files_of (command.Check words.now)) (S.broke shelf.old) (S.broke shelf.new) }
+    ensures long { IsErrOf result ShelfFault.Long → Rose (S.over shelf.old) (S.over shelf.new) }
+    ensures taken { IsErrOf result ShelfFault.Long → RoseBy 16777217 (S.taken shelf.old) (S.taken shelf.new) }
+    ensures longer { IsErrOf result ShelfFault.Long → LongerHeld (S.held shelf.old) (files_of (command.Check words.now)) }
+{
+    let files = read_check_files(alloc, words, shelf)?;
+    match check_answer(
+        alloc,
+        files.inventory.as_slice(),
+        files.requests.as_slice(),
+        files.bindings.as_slice(),
+        files.plan.as_slice(),
+    ) {
+        Ok(answer) => Ok(answer),
+        Err(_) => Err(ShelfFault::Memory),
+    }
+}
+
+// A run of `check`.
+fn run_check<S: Shelf, K: Sink, E: Sink>(
+    alloc: Global,
+    words: &CheckWords,
+    shelf: &mut S,
+    out: &mut K,
+    note: &mut E,
+) -> u8
+    ensures printed { is_printed result ≡ true → AtAnswer (S.held shelf.old) (Some (command.Check words.now))
+        (λ a. (status_of a ≡ result) × Appends (K.written out.old) (K.written out.new) (text_of a)) }
+    ensures silent { is_printed result ≡ true → note.new ≡ note.old }
+    ensures invalid { result ≡ 3 → AtAnswer (S.held shelf.old) (Some (command.Check words.now))
+        (λ a. (status_of a ≡ 3) × Tells (E.faults note.old) (E.faults note.new) (E.written note.old) (E.written note.new) (note_of a)) }
+    ensures prefix { result ≡ 7 → AtAnswer (S.held shelf.old) (Some (command.Check words.now))
+        (λ a. (is_printed (status_of a) ≡ true) × AppendsSome (K.written out.old) (K.written out.new) (text_of a)) }
+    ensures unwritten { is_printed result ≡ false → result ≢ 7 → out.new ≡ out.old }
+    ensures failed { result ≡ 6 → Rose (S.faults shelf.old) (S.faults shelf.new) }
+    ensures broke { result ≡ 6 → BreaksHeld (S.held shelf.old) (files_of (command.Check words.now)) (S.broke shelf.old) (S.broke shelf.new) }
+    ensures write { result ≡ 7 → Rose (K.faults out.old) (K.faults out.new) }
+    ensures long { result ≡ 8 → Rose (S.over shelf.old) (S.over shelf.new) }
+    ensures taken { result ≡ 8 → RoseBy 16777217 (S.taken shelf.old) (S.taken shelf.new) }
+    ensures longer { result ≡ 8 → LongerHeld (S.held shelf.old) (files_of (command.Check words.now)) }
+    ensures told_failed { result ≡ 6 → Tells (E.faults note.old) (E.faults note.new) (E.written note.old) (E.written note.new) (codes "ras: read failed\n") }
+    ensures told_write { result ≡ 7 → Tells (E.faults note.old) (E.faults note.new) (E.written note.old) (E.written note.new) (codes "ras: write failed\n") }
+    ensures told_long { result ≡ 8 → Tells (E.faults note.old) (E.faults note.new) (E.written note.old) (E.written note.new) (codes "ras: file too long\n") }
+    ensures told_memory { result ≡ 9 → Tells (E.faults note.old) (E.faults note.new) (E.written note.old) (E.written note.new) (codes "ras: no memory\n") }
+    ensures known { (is_printed result ≡ true) ⊎ (result ≡ 3) ⊎ (result ≡ 6) ⊎ (result ≡ 7) ⊎ (result ≡ 8) ⊎ (result ≡ 9) }
+{
+    match answer_check(alloc, words, shelf) {
+        Ok(answer) => deliver(&answer, out, note),
+        Err(fault) => tell_fault(note, fault),
+    }
+}
+
+/// A run from the words of a command line, of which the first is the program's name, to its status.
+///
+/// | Status | Comes |
+/// |---|---|
+/// | 0 | the command did what was asked, and its text is printed |
+/// | 1 | `check`: the files are valid and the document is not accepted; the reason is printed |
+/// | 2 | the words are not taken; a text for the user is on `note` |
+/// | 3 | a file is not valid; its first fault is on `note` |
+/// | 6, 7, 8 | a read failed; a write failed, and a front of the text went out; a file is too long |
+/// | 9 | memory ran out |
+///
+/// Files are read in the order of the words, then read as what they say in that order. A text is made before its first
+/// put, and goes out in pieces of 4,096 bytes. A message goes to `note` in one put, whose fault changes no status.
+pub fn run<S: Shelf, K: Sink, E: Sink>(
+    alloc: Global,
+    words: &List<Word>,
+    shelf: &mut S,
+    out: &mut K,
+    note: &mut E,
+) -> u8
+    ensures refused { result ≡ 2 → asked_of words.now ≡ None }
+    ensures refuses { asked_of words.now ≡ None → (result ≡ 2) ⊎ (result ≡ 9) }
+    ensures told_refused { result ≡ 2 → command_of words.now ≢ Err Refused
+        → Tells (E.faults note.old) (E.faults note.new) (E.written note.old) (E.written note.new) (codes "ras: bad words\n") }
+    ensures printed { is_printed result ≡ true → AtAnswer (S.held shelf.old) (asked_of words.now)
+        (λ a. (status_of a ≡ result) × Appends (K.written out.old) (K.written out.new) (text_of a)) }
+    ensures silent { is_printed result ≡ true → note.new ≡ note.old }
+    ensures invalid { result ≡ 3 → AtAnswer (S.held shelf.old) (asked_of words.now)
+        (λ a. (status_of a ≡ 3) × Tells (E.faults note.old) (E.faults note.new) (E.written note.old) (E.written note.new) (note_of a)) }
+    ensures prefix { result ≡ 7 → AtAnswer (S.held shelf.old) (asked_of words.now)
+        (λ a. (is_printed (status_of a) ≡ true) × AppendsSome (K.written out.old) (K.written out.new) (text_of a)) }
+    ensures unwritten { is_printed result ≡ false → result ≢ 7 → out.new ≡ out.old }
+    ensures failed { result ≡ 6 → Rose (S.faults shelf.old) (S.faults shelf.new) }
+    ensures broke { result ≡ 6 → BreaksHeld (S.held shelf.old) (files_asked (asked_of words.now)) (S.broke shelf.old) (S.broke shelf.new) }
+    ensures write { result ≡ 7 → Rose (K.faults out.old) (K.faults out.new) }
+    ensures long { result ≡ 8 → Rose (S.over shelf.old) (S.over shelf.new) }
+    ensures taken { result ≡ 8 → RoseBy 16777217 (S.taken shelf.old) (S.taken shelf.new) }
+    ensures longer { result ≡ 8 → LongerHeld (S.held shelf.old) (files_asked (asked_of words.now)) }
+    ensures told_failed { result ≡ 6 → Tells (E.faults note.old) (E.faults note.new) (E.written note.old) (E.written note.new) (codes "ras: read failed\n") }
+    ensures told_write { result ≡ 7 → Tells (E.faults note.old) (E.faults note.new) (E.written note.old) (E.written note.new) (codes "ras: write failed\n") }
+    ensures told_long { result ≡ 8 → Tells (E.faults note.old) (E.faults note.new) (E.written note.old) (E.written note.new) (codes "ras: file too long\n") }
+    ensures told_memory { result ≡ 9 → Tells (E.faults note.old) (E.faults note.new) (E.written note.old) (E.written note.new) (codes "ras: no memory\n") }
+    ensures known { (is_printed result ≡ true) ⊎ (result ≡ 2) ⊎ (result ≡ 3) ⊎ (result ≡ 6) ⊎ (result ≡ 7) ⊎ (result ≡ 8) ⊎ (result ≡ 9) }
+{
+    match read_words(alloc, words.as_slice()) {
+        Ok(Command::Check(words)) => run_check(alloc, &words, shelf, out, note),
+        Ok(Command::Solve(_) | Command::Move(_) | Command::Sample(_))
+        | Err(WordsFault::NoCommand) => {
+            tell(note, "ras: bad words\n");
+            2
+        }
+        Err(WordsFault::Refused(text)) => {
+            tell(note, text.as_str());
+            2
+        }
+        Err(WordsFault::Memory) => tell_fault(note, ShelfFault::Memory),
+    }
+}
