@@ -15,7 +15,7 @@ use Rattle.bound_certificate.specs.declared.tree.Least.{Least}
 use Rattle.bound_certificate.specs.declared.tree.Least.TheVariants as least
 use Rattle.bound_certificate.specs.declared.tree.TreeWhy.{TreeWhy}
 use Rattle.bound_certificate.specs.declared.tree.TreeWhy.TheVariants as why
-use Rattle.bound_certificate.specs.Trees.{low_side, high_side, box_of, is_named, broken_rule, fault_of, sooner_fault, first_fault, lesser, node_bound, least_bound, fault_of_tree, bound_of_tree}
+use Rattle.bound_certificate.specs.Trees.{low_side, high_side, box_of, is_named, broken_rule, fault_of, sooner_fault, first_fault, lesser_of, node_bound, least_bound, fault_of_tree, bound_of_tree}
 use Rattle.bound_certificate.specs.declared.multipliers.Multipliers.{Multipliers}
 use Rattle.bound_certificate.proofs.Rules.{Rightly, split_rules, choose, either_named}
 use Rattle.bound_certificate.specs.Pending.{nodes_before, IsHeldFor, HoldsFrom, places_after}
@@ -35,7 +35,7 @@ pub fault_step : (program : Program) (nodes : List Node) (i : ℕ) (node : Node)
 fault_step program nodes i node p is = rw (next_nodes nodes i node p is, before_next nodes i node p is, length-before nodes i (omega arith)) refl
 
 pub bound_step : (program : Program) (nodes : List Node) (i : ℕ) (node : Node) → i < length nodes → node ≡ get_or nodes i node
-    → least_bound program (nodes_before nodes i) (drop i nodes) ≡ lesser (node_bound program (box_of program (nodes_before nodes i) i) node) (least_bound program (nodes_before nodes (i + 1)) (drop (i + 1) nodes))
+    → least_bound program (nodes_before nodes i) (drop i nodes) ≡ lesser_of (node_bound program (box_of program (nodes_before nodes i) i) node) (least_bound program (nodes_before nodes (i + 1)) (drop (i + 1) nodes))
 bound_step program nodes i node p is = rw (next_nodes nodes i node p is, before_next nodes i node p is, length-before nodes i (omega arith)) refl
 
 pub low_of_full : (n j : ℕ) → slice_index (replicate n 0) j ≡ 0
@@ -186,7 +186,7 @@ pub no_fault_next : (program : Program) (nodes : List Node) (i : ℕ) (node : No
 no_fault_next program nodes i node box whole v fault so_far =
     sym (ap (λ f. sooner_fault i f (first_fault program (length nodes) (nodes_before nodes (i + 1)) (drop (i + 1) nodes))) fault) ∙ sym (fault_step program nodes i node v.there v.node_is) ∙ so_far
 
-lesser_assoc : (a b c : Least) → lesser (lesser a b) c ≡ lesser a (lesser b c)
+lesser_assoc : (a b c : Least) → lesser_of (lesser_of a b) c ≡ lesser_of a (lesser_of b c)
 lesser_assoc (least.At m) (least.At n) (least.At k) = ap least.At (omega arith)
 lesser_assoc (least.At m) (least.At n) least.AllRefuted = refl
 lesser_assoc (least.At m) least.AllRefuted (least.At k) = refl
@@ -194,13 +194,13 @@ lesser_assoc (least.At m) least.AllRefuted least.AllRefuted = refl
 lesser_assoc least.AllRefuted b c = refl
 
 pub found_next : (program : Program) (nodes : List Node) (i : ℕ) (node : Node) (box : Bounds) (found here new whole : Least) → Visited program nodes i node box
-    → here ≡ node_bound program box node → new ≡ lesser found here → lesser found (least_bound program (nodes_before nodes i) (drop i nodes)) ≡ whole
-    → lesser new (least_bound program (nodes_before nodes (i + 1)) (drop (i + 1) nodes)) ≡ whole
+    → here ≡ node_bound program box node → new ≡ lesser_of found here → lesser_of found (least_bound program (nodes_before nodes i) (drop i nodes)) ≡ whole
+    → lesser_of new (least_bound program (nodes_before nodes (i + 1)) (drop (i + 1) nodes)) ≡ whole
 found_next program nodes i node box found here new whole v is sum so_far =
     let rest = least_bound program (nodes_before nodes (i + 1)) (drop (i + 1) nodes) in
-    ap (λ l. lesser l rest) (sum ∙ ap (lesser found) (is ∙ ap (λ (b : Bounds). node_bound program b node) v.box_is))
+    ap (λ l. lesser_of l rest) (sum ∙ ap (lesser_of found) (is ∙ ap (λ (b : Bounds). node_bound program b node) v.box_is))
     ∙ lesser_assoc found (node_bound program (box_of program (nodes_before nodes i) i) node) rest
-    ∙ ap (lesser found) (sym (bound_step program nodes i node v.there v.node_is)) ∙ so_far
+    ∙ ap (lesser_of found) (sym (bound_step program nodes i node v.there v.node_is)) ∙ so_far
 
 size_after : (node : Node) (box : Bounds) (places : List (Option Bounds)) → length (places_after node box places) ≡ length places
 size_after (Split column at low high shown) box places = omega (arith, length-set (slice_set places low (Some (low_side box column at))) high (Some (high_side box column at)), length-set places low (Some (low_side box column at)))
@@ -223,15 +223,15 @@ pub none_left : (o : Option TreeWhy) → ((rule : TreeWhy) → o ≡ Some rule �
 none_left None h = refl
 none_left (Some rule) h = absurd (h rule refl)
 
-pub lesser_none : (l : Least) → lesser l least.AllRefuted ≡ l
+pub lesser_none : (l : Least) → lesser_of l least.AllRefuted ≡ l
 lesser_none (least.At n) = refl
 lesser_none least.AllRefuted = refl
 
 -- all nodes were visited
 pub walk_end : (program : Program) (nodes : List Node) (i : ℕ) (found : Least) → length nodes ≤ i → first_fault program (length nodes) (nodes_before nodes i) (drop i nodes) ≡ fault_of_tree program nodes
-    → lesser found (least_bound program (nodes_before nodes i) (drop i nodes)) ≡ bound_of_tree program nodes → (fault_of_tree program nodes ≡ None) × (found ≡ bound_of_tree program nodes)
+    → lesser_of found (least_bound program (nodes_before nodes i) (drop i nodes)) ≡ bound_of_tree program nodes → (fault_of_tree program nodes ≡ None) × (found ≡ bound_of_tree program nodes)
 walk_end program nodes i found past so_far sum =
     let end : drop i nodes ≡ [] = drop_all i nodes past in (
       sym so_far ∙ ap (λ (ns : List Node). first_fault program (length nodes) (nodes_before nodes i) ns) end,
-      sym (lesser_none found) ∙ sym (ap (λ (ns : List Node). lesser found (least_bound program (nodes_before nodes i) ns)) end) ∙ sum,
+      sym (lesser_none found) ∙ sym (ap (λ (ns : List Node). lesser_of found (least_bound program (nodes_before nodes i) ns)) end) ∙ sum,
     )

@@ -2,7 +2,7 @@
 ghost use Rattle.std.specs.Prelude.{◌≡◌, ℕ, ◌+◌, ◌-◌, ◌^◌, ◌<◌, ◌≤◌, ◌↔◌, IfOk, OnOk, IsTrue, IsNone, List, length, slice_set, slice_index_or};
 ghost use Rattle.ip_model.specs.Points.{IsBoxOf, IsWholePoint, value_of};
 ghost use Rattle.bound_certificate.specs.Pending.{nodes_before, places_after, HoldsFrom, NodeFits};
-ghost use Rattle.bound_certificate.specs.Trees.{box_of, broken_rule, broken_split, child_fits, high_side, lesser, low_side, node_bound, rows_fit, IsLower, LiesUnder};
+ghost use Rattle.bound_certificate.specs.Trees.{box_of, broken_rule, broken_split, child_fits, high_side, lesser_of, low_side, node_bound, rows_fit, IsLower, LiesUnder};
 
 use crate::leaf::{Sums, bound, refutes};
 use crate::multipliers::Multipliers;
@@ -169,7 +169,7 @@ fn broken_rule_of(
 impl Least {
     /// The lesser of two bounds.
     fn lesser(self, other: Least) -> Least
-        ensures { result ≡ lesser self other }
+        ensures { result ≡ lesser_of self other }
     {
         match (self, other) {
             (Least::At(m), Least::At(n)) => Least::At(m.min(n)),

@@ -12,9 +12,9 @@ use Rattle.plan_model.specs.declared.cases.Case.{Case}
 use Rattle.plan_model.specs.declared.cases.Place.{Place}
 use Rattle.plan_model.specs.declared.cases.Assignment.{Assignment}
 use Rattle.plan_model.specs.declared.cases.Grouping.{Grouping}
-use Rattle.plan_model.specs.Units.{want_of, value_for, place_of, server_with, no_place, assigned, all_reservations, units, units_on_board, units_on_rack, units_in_center}
+use Rattle.plan_model.specs.Units.{want_of, value_for, place_of, server_with, no_place, servers_with_places, all_reservations, units, units_on_board, units_on_rack, units_in_center}
 use Rattle.plan_model.specs.Allowed.{serves, fits, keeps_need, survives_loss, survives_each_loss, region_allowed}
-use Rattle.plan_model.specs.Rack.{may_move, none_or_in, keeps_to_chosen}
+use Rattle.plan_model.specs.Rack.{is_movable, none_or_in, keeps_to_chosen}
 use Rattle.plan_model.proofs.SumLemmas.{length-fits}
 use Rattle.plan_model.proofs.CaseFacts.{list_all-at}
 use Rattle.symmetry_classes.specs.declared.groups.Class.{Class}
@@ -87,7 +87,7 @@ up-valued : (case : Case) (p : Place) (to : Option ℕ) → p.up ≡ true → va
 up-valued case p None up h = refl
 up-valued case p (Some q) up h = both p.up (nat_lt 0 (value_for case q p.kind)) up h
 
-serves-by : (case : Case) (setting : Setting) (p : Place) (from to : Option ℕ) (b : Bool) → may_move case setting.active (p, from) ≡ b
+serves-by : (case : Case) (setting : Setting) (p : Place) (from to : Option ℕ) (b : Bool) → is_movable case setting.active (p, from) ≡ b
     → ◌≡◌ {A = ℕ} (cond b (cond (placed case setting (p, to)) 0 1) 0) 0 → (b ≡ false → to ≡ from) → serves case (p, from) ≡ true → serves case (p, to) ≡ true
 serves-by case setting p from to true moves well stays start = up-valued case p to (and-left _ _ (and-left _ _ moves)) (and-left _ _ (passed (placed case setting (p, to)) well))
 serves-by case setting p from to false moves well stays start = ap (λ o. serves case (p, o)) (stays refl) ∙ start
@@ -100,7 +100,7 @@ keeps-by case setting p from to false well stays = ap (option_eq nat_eq from) (s
 module _ (case : Case) (setting : Setting) (phase : IsPhase case setting) (how : Grouping) (a : Assignment) (number : Mark → ℕ) (counts : CountsIn case setting how a number) (size : length a.of ≡ length case.places)
     (full : (c : ℕ) (class : Class) → slice_get (phase_classes case setting how) c ≡ Some class
     → length class.members ≤ sum_by (λ col. in_class c col.mark * number col.mark) (columns_of case setting how))
-    (stays : (s : ℕ) → s < length case.places → may_move case setting.active (server_with case setting.start s) ≡ false → slice_index_or a.of s None ≡ slice_index_or setting.start.of s None) where
+    (stays : (s : ℕ) → s < length case.places → is_movable case setting.active (server_with case setting.start s) ≡ false → slice_index_or a.of s None ≡ slice_index_or setting.start.of s None) where
   abbrev servers : List ℕ
   servers = movable_servers case setting
 
@@ -146,35 +146,35 @@ module _ (case : Case) (setting : Setting) (phase : IsPhase case setting) (how :
   abbrev all : List ((Place × Option ℕ) × Option ℕ)
   all = trio case setting phase a size
 
-  trio-well : All (λ s. cond (may_move case setting.active s.0) (bad (s.0.0, s.1)) 0 ≡ 0) all
-  trio-well = zero-all (λ s. cond (may_move case setting.active s.0) (bad (s.0.0, s.1)) 0) all (sym (movable-sum case setting phase a size bad) ∙ movable-well)
+  trio-well : All (λ s. cond (is_movable case setting.active s.0) (bad (s.0.0, s.1)) 0 ≡ 0) all
+  trio-well = zero-all (λ s. cond (is_movable case setting.active s.0) (bad (s.0.0, s.1)) 0) all (sym (movable-sum case setting phase a size bad) ∙ movable-well)
 
-  trio-stays : All (λ s. may_move case setting.active s.0 ≡ false → s.1 ≡ s.0.1) all
-  trio-stays = All-trio case setting phase a size (λ s. may_move case setting.active s.0 ≡ false → s.1 ≡ s.0.1) stays
+  trio-stays : All (λ s. is_movable case setting.active s.0 ≡ false → s.1 ≡ s.0.1) all
+  trio-stays = All-trio case setting phase a size (λ s. is_movable case setting.active s.0 ≡ false → s.1 ≡ s.0.1) stays
 
   trio-start : All (λ s. serves case s.0 ≡ true) all
   trio-start = All-trio case setting phase a size (λ s. serves case s.0 ≡ true) (λ i within.
       let same = length-fits case setting.start phase.fit in
       let second : i < length setting.start.of = omega (arith, same, within) in
-      let inside : i < length (assigned case setting.start) = omega (arith, length-zip case.places setting.start.of, same, within) in
+      let inside : i < length (servers_with_places case setting.start) = omega (arith, length-zip case.places setting.start.of, same, within) in
       subst (λ s. serves case s ≡ true) (get_or-zip case.places setting.start.of i (no_place, None) within second)
-      (list_all-at (serves case) (assigned case setting.start) i (no_place, None) inside phase.serve))
+      (list_all-at (serves case) (servers_with_places case setting.start) i (no_place, None) inside phase.serve))
 
-  pub serving : list_all (serves case) (assigned case a) ≡ true
+  pub serving : list_all (serves case) (servers_with_places case a) ≡ true
   serving =
       let missing : Place × Option ℕ → ℕ = λ s. cond (serves case s) 0 1 in
-      let none : sum_by missing (assigned case a) ≡ 0 =
+      let none : sum_by missing (servers_with_places case a) ≡ 0 =
       assigned-sum case setting phase a size missing
       ∙ same-all (λ s. missing (s.0.0, s.1)) (λ _. 0) all
       (λ k d inside. let s = get_or all k d in
-      ap (λ b. cond b 0 1) (serves-by case setting s.0.0 s.0.1 s.1 (may_move case setting.active s.0) refl (trio-well k d inside) (trio-stays k d inside) (trio-start k d inside)))
+      ap (λ b. cond b 0 1) (serves-by case setting s.0.0 s.0.1 s.1 (is_movable case setting.active s.0) refl (trio-well k d inside) (trio-stays k d inside) (trio-start k d inside)))
       ∙ sum_by-zero (λ _. 0) (λ _. refl) all in
-      let zeros = zero-all missing (assigned case a) none in
-      list_all-from (serves case) (assigned case a) (λ k d inside. passed (serves case (get_or (assigned case a) k d)) (zeros k d inside))
+      let zeros = zero-all missing (servers_with_places case a) none in
+      list_all-from (serves case) (servers_with_places case a) (λ k d inside. passed (serves case (get_or (servers_with_places case a) k d)) (zeros k d inside))
 
   keeping : list_all (keeps_to_chosen case setting.active) all ≡ true
   keeping = list_all-from (keeps_to_chosen case setting.active) all
-      (λ k d inside. let s = get_or all k d in keeps-by case setting s.0.0 s.0.1 s.1 (may_move case setting.active s.0) (trio-well k d inside) (trio-stays k d inside))
+      (λ k d inside. let s = get_or all k d in keeps-by case setting s.0.0 s.0.1 s.1 (is_movable case setting.active s.0) (trio-well k d inside) (trio-stays k d inside))
 
   abbrev ranged : Option ℕ → Bool
   ranged to = option_map_or (λ r. nat_lt r (length case.wants)) to true
@@ -201,7 +201,7 @@ module _ (case : Case) (setting : Setting) (phase : IsPhase case setting) (how :
       ∙ assigned-sum case setting phase a size (λ s. missing s.1)
       ∙ same-all (λ s. missing s.1) (λ _. 0) all
       (λ k d inside. let s = get_or all k d in
-      ap (λ b. cond b 0 1) (ranged-by s.0.0 s.0.1 s.1 (may_move case setting.active s.0) (trio-well k d inside) (trio-stays k d inside) (trio-ranged k d inside)))
+      ap (λ b. cond b 0 1) (ranged-by s.0.0 s.0.1 s.1 (is_movable case setting.active s.0) (trio-well k d inside) (trio-stays k d inside) (trio-ranged k d inside)))
       ∙ sum_by-zero (λ _. 0) (λ _. refl) all in
       let zeros = zero-all missing a.of none in
       both (length a.of == length case.places) (list_all ranged a.of) (eq-eqb (length a.of) (length case.places) size)
@@ -243,7 +243,7 @@ module _ (case : Case) (setting : Setting) (phase : IsPhase case setting) (how :
     pub allowed : phase_allowed case setting a ≡ true
     allowed =
         both (region_allowed case a) (list_all (keeps_to_chosen case setting.active) all)
-        (both (fits case a && list_all (serves case) (assigned case a)) (list_all (keeps_need case a) (all_reservations case)) (both (fits case a) (list_all (serves case) (assigned case a)) fitting serving)
+        (both (fits case a && list_all (serves case) (servers_with_places case a)) (list_all (keeps_need case a) (all_reservations case)) (both (fits case a) (list_all (serves case) (servers_with_places case a)) fitting serving)
         (list_all-range (keeps_need case a) (length case.wants) (λ r within. keeps r within (is_active setting r) refl)))
         keeping
 

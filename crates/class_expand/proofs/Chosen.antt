@@ -10,7 +10,7 @@ use Rattle.plan_model.specs.Units.{all_reservations}
 use Rattle.plan_model.specs.Costs.{rack_excess}
 use Rattle.plan_model.proofs.SumLemmas.{sum_by-filter-le}
 use Rattle.symmetry_classes.proofs.Partition.{sum_by-zero}
-use Rattle.program_rows.specs.Choice.{insert_by_key, longest_prefix, ranked, chosen_of, rack_program_fits}
+use Rattle.program_rows.specs.Choice.{insert_by_key, longest_prefix, ranking, chosen_of, rack_program_fits}
 use Rattle.program_rows.proofs.RangeSums.{once-in_range, none-in_range}
 use Rattle.program_rows.proofs.PhaseSums.{zero-all, same-all}
 use Rattle.program_rows.proofs.PhaseCosts.{passed}
@@ -47,10 +47,10 @@ sum-chosen : (f : ℕ → ℕ) (case : Case) (region : Assignment) (most : ℕ) 
 sum-chosen f case region most =
     let key = rack_excess case region in
     let some = filter (λ r. nat_lt 0 (key r)) (all_reservations case) in
-    let rs = take most (ranked case region) in
+    let rs = take most (ranking case region) in
     let prefix = sum-prefix f (rack_program_fits case region) rs (length rs) in
-    let few = sum-take f most (ranked case region) in
-    let sorted : sum_by f (ranked case region) ≡ 0 + sum_by f some = sum-fold f key some [] in
+    let few = sum-take f most (ranking case region) in
+    let sorted : sum_by f (ranking case region) ≡ 0 + sum_by f some = sum-fold f key some [] in
     let less = sum_by-filter-le (λ r. nat_lt 0 (key r)) f (all_reservations case) in
     omega (arith, prefix, few, sorted, less)
 

@@ -15,11 +15,11 @@ use Rattle.std.proofs.lemmas.Bool.Decides.{nat_tests}
 use Rattle.plan_model.specs.declared.cases.Case.{Case}
 use Rattle.plan_model.specs.declared.cases.Assignment.{Assignment}
 use Rattle.plan_model.specs.declared.cases.Grouping.{Grouping}
-use Rattle.plan_model.specs.Units.{assigned, server_with, no_place}
-use Rattle.plan_model.specs.Rack.{may_move}
+use Rattle.plan_model.specs.Units.{servers_with_places, server_with, no_place}
+use Rattle.plan_model.specs.Rack.{is_movable}
 use Rattle.plan_model.proofs.SumLemmas.{length-fits}
 use Rattle.symmetry_classes.specs.declared.groups.Class.{Class}
-use Rattle.symmetry_classes.specs.Groups.{same_class, class_of, first_of_each, flagged}
+use Rattle.symmetry_classes.specs.Groups.{same_class, class_of, first_of_each, flagged_servers}
 use Rattle.symmetry_classes.proofs.Partition.{sum_by-same, sum_by-zero, sum_by-classes}
 use Rattle.symmetry_classes.proofs.SameClass.{same_class-equivalence}
 use Rattle.ip_model.specs.declared.parts.Mark.{Mark}
@@ -161,7 +161,7 @@ flag-most true true = omega arith
 flag-most true false = omega arith
 flag-most false c = omega arith
 
-flagged-once : (flags : List Bool) (s : ℕ) → times s (flagged flags) ≤ 1
+flagged-once : (flags : List Bool) (s : ℕ) → times s (flagged_servers flags) ≤ 1
 flagged-once flags s =
     let sum = sum_by-flagged (λ m. cond (m == s) 1 0) flags in
     let less = most-all (λ (e : ℕ × Bool). cond e.1 (cond (e.0 == s) 1 0) 0) (λ e. cond (e.0 == s) 1 0) (enumerate_from 0 flags)
@@ -183,7 +183,7 @@ unflagged-by flags s i true h read true e =
     read-flag (f ∷ fs) zero r = cc
     read-flag (f ∷ fs) (suc k) r = read-flag fs k r
 
-unflagged-none : (flags : List Bool) (s : ℕ) → get_or flags s false ≡ false → times s (flagged flags) ≡ 0
+unflagged-none : (flags : List Bool) (s : ℕ) → get_or flags s false ≡ false → times s (flagged_servers flags) ≡ 0
 unflagged-none flags s h =
     sum_by-flagged (λ m. cond (m == s) 1 0) flags
     ∙ same-all (λ (e : ℕ × Bool). cond e.1 (cond (e.0 == s) 1 0) 0) (λ e. 0) (enumerate_from 0 flags)
@@ -343,10 +343,10 @@ module _ (case : Case) (setting : Setting) (phase : IsPhase case setting) (how :
         counts = counts-right;
       }
         where
-          flag-fixed : (s : ℕ) → s < length case.places → may_move case setting.active (server_with case setting.start s) ≡ false → get_or (movable_flags case setting) s false ≡ false
+          flag-fixed : (s : ℕ) → s < length case.places → is_movable case setting.active (server_with case setting.start s) ≡ false → get_or (movable_flags case setting) s false ≡ false
           flag-fixed s within fixed =
               let same = length-fits case setting.start phase.fit in
               let second : s < length setting.start.of = omega (arith, same, within) in
-              let beside : s < length (assigned case setting.start) = omega (arith, length-zip case.places setting.start.of, same, within) in
-              get_or-map (may_move case setting.active) (assigned case setting.start) s (no_place, None) false beside
-              ∙ ap (may_move case setting.active) (get_or-zip case.places setting.start.of s (no_place, None) within second) ∙ fixed
+              let beside : s < length (servers_with_places case setting.start) = omega (arith, length-zip case.places setting.start.of, same, within) in
+              get_or-map (is_movable case setting.active) (servers_with_places case setting.start) s (no_place, None) false beside
+              ∙ ap (is_movable case setting.active) (get_or-zip case.places setting.start.of s (no_place, None) within second) ∙ fixed

@@ -16,7 +16,7 @@ use Rattle.plan_model.specs.declared.cases.Goal.{Goal}
 use Rattle.plan_model.specs.declared.cases.Assignment.{Assignment}
 use Rattle.plan_model.specs.declared.cases.Grouping.{Grouping}
 use Rattle.plan_model.specs.CaseRule.{stand_together}
-use Rattle.plan_model.specs.Units.{want_of, is_for, share_of, assigned, place_of, units_where, units_on_board, units_on_rack, units_in_center}
+use Rattle.plan_model.specs.Units.{want_of, is_for, share_of, servers_with_places, place_of, units_where, units_on_board, units_on_rack, units_in_center}
 use Rattle.plan_model.proofs.SumLemmas.{sum_by-filter}
 use Rattle.plan_model.proofs.CaseFacts.{list_all-at}
 use Rattle.symmetry_classes.specs.declared.groups.Class.{Class}
@@ -126,14 +126,14 @@ no-board case board = any-false (λ s. s.board == board && is_for s.center None)
 pub center-units : (case : Case) (a : Assignment) (r : ℕ) (center : Option ℕ)
     → units_where (λ s. board_in_center case center s.board) case a r ≡ option_map_or (units_in_center case a r) center 0
 center-units case a r None =
-    sum_by-filter (λ s. board_in_center case None s.0.board) (share_of case r) (assigned case a)
-    ∙ sum_by-zero (λ s. cond (board_in_center case None s.0.board) (share_of case r s) 0) (λ s. ap (λ b. cond b (share_of case r s) 0) (no-board case s.0.board)) (assigned case a)
+    sum_by-filter (λ s. board_in_center case None s.0.board) (share_of case r) (servers_with_places case a)
+    ∙ sum_by-zero (λ s. cond (board_in_center case None s.0.board) (share_of case r s) 0) (λ s. ap (λ b. cond b (share_of case r s) 0) (no-board case s.0.board)) (servers_with_places case a)
 center-units case a r (Some d) =
-    sum_by-filter (λ s. board_in_center case (Some d) s.0.board) (share_of case r) (assigned case a)
+    sum_by-filter (λ s. board_in_center case (Some d) s.0.board) (share_of case r) (servers_with_places case a)
     ∙ sum_by-zip_same (λ s. cond (board_in_center case (Some d) s.0.board) (share_of case r s) 0) (λ s. cond (s.0.center == d) (share_of case r s) 0) case.places a.of
     (λ k z within to.
     ap (λ b. cond b (share_of case r (get_or case.places k z, to)) 0) (board-lies case d k z within ((get_or case.places k z).center == d) refl))
-    ∙ sym (sum_by-filter (λ s. s.0.center == d) (share_of case r) (assigned case a))
+    ∙ sym (sum_by-filter (λ s. s.0.center == d) (share_of case r) (servers_with_places case a))
 
 module _ (case : Case) (setting : Setting) (phase : IsPhase case setting) (a : Assignment) (lawful : IsLawful case setting a) (how : Grouping) (number : Mark → ℕ)
     (counts : CountsIn case setting how a number) where

@@ -11,10 +11,10 @@ use Rattle.std.proofs.lemmas.Bool.Decides.{nat_tests}
 use Rattle.plan_model.specs.declared.cases.Place.{Place}
 use Rattle.plan_model.specs.declared.cases.Case.{Case}
 use Rattle.plan_model.specs.declared.cases.Assignment.{Assignment}
-use Rattle.plan_model.specs.Units.{value_for, no_place, assigned, all_reservations, free_plan}
+use Rattle.plan_model.specs.Units.{value_for, no_place, servers_with_places, all_reservations, free_plan}
 use Rattle.plan_model.specs.Allowed.{serves, fits, keeps_need, region_allowed}
 use Rattle.plan_model.specs.Costs.{region_cost, rack_cost, rack_excess}
-use Rattle.plan_model.specs.Rack.{may_move, none_or_in, some_value, keeps_to_chosen, rack_allowed}
+use Rattle.plan_model.specs.Rack.{is_movable, none_or_in, some_value, keeps_to_chosen, rack_allowed}
 use Rattle.plan_model.proofs.SumLemmas.{length-fits, sum_by-filter, sum_by-filter-le}
 use Rattle.plan_model.proofs.CaseFacts.{list_all-at}
 use Rattle.plan_model.proofs.AllowedLaws.{list_all-range_at}
@@ -89,17 +89,17 @@ region-is_phase case = record {
 }
 
 region-keeps : (case : Case) (p : Place) (to : Option ℕ) → option_map_or (λ r. nat_lt r (length case.wants)) to true ≡ true → serves case (p, to) ≡ true
-    → (b : Bool) → may_move case (all_reservations case) (p, None) ≡ b → cond b (none_or_in (all_reservations case) to) (option_eq nat_eq None to) ≡ true
+    → (b : Bool) → is_movable case (all_reservations case) (p, None) ≡ b → cond b (none_or_in (all_reservations case) to) (option_eq nat_eq None to) ≡ true
 region-keeps case p None fit served true e = refl
 region-keeps case p None fit served false e = refl
 region-keeps case p (Some q) fit served true e = in-range (length case.wants) q (lt-from q (length case.wants) fit)
 region-keeps case p (Some q) fit served false e =
-    let moves : may_move case (all_reservations case) (p, None) ≡ true =
+    let moves : is_movable case (all_reservations case) (p, None) ≡ true =
     both _ _ (both p.up true (and-left _ _ served) refl) (some_value-of case q p.kind (lt-from q (length case.wants) fit) (and-right _ _ served)) in
     let clash : true ≡ false = sym moves ∙ e in
     cc
 
-region-phase_allowed : (case : Case) (a : Assignment) → region_allowed case a ≡ true → phase_allowed case (region_setting case) a ≡ true
+pub region-phase_allowed : (case : Case) (a : Assignment) → region_allowed case a ≡ true → phase_allowed case (region_setting case) a ≡ true
 region-phase_allowed case a allowed =
     let setting = region_setting case in
     let phase = region-is_phase case in
@@ -112,11 +112,11 @@ region-phase_allowed case a allowed =
     let p : Place = get_or case.places i no_place in
     let to : Option ℕ = get_or a.of i None in
     let second : i < length a.of = omega (arith, same, within) in
-    let beside : i < length (assigned case a) = omega (arith, length-zip case.places a.of, same, within) in
+    let beside : i < length (servers_with_places case a) = omega (arith, length-zip case.places a.of, same, within) in
     let ranged = list_all-at (λ o. option_map_or (λ r. nat_lt r (length case.wants)) o true) a.of i None second (and-right _ _ fit) in
-    let served : serves case (p, to) ≡ true = subst (λ s. serves case s ≡ true) (get_or-zip case.places a.of i (no_place, None) within second) (list_all-at (serves case) (assigned case a) i (no_place, None) beside (and-right _ _ first)) in
+    let served : serves case (p, to) ≡ true = subst (λ s. serves case s ≡ true) (get_or-zip case.places a.of i (no_place, None) within second) (list_all-at (serves case) (servers_with_places case a) i (no_place, None) beside (and-right _ _ first)) in
     ap (λ o. keeps_to_chosen case setting.active ((p, o), to)) (none-of (length case.places) i)
-    ∙ region-keeps case p to ranged served (may_move case setting.active (p, None)) refl)))
+    ∙ region-keeps case p to ranged served (is_movable case setting.active (p, None)) refl)))
 
 plus-none : (n : ℕ) → n + 0 ≡ n
 plus-none n = omega arith
@@ -208,13 +208,13 @@ module _ (case : Case) (region : Assignment) (chosen : List ℕ) where
       (any-passes passes (list_any passes chosen) setting.active
       (λ k d inside h. let r = get_or setting.active k d in any-from passes r chosen (active-chosen r (any-itself setting.active k d inside)) h))
 
-  may_move-same : (p : Place) (from : Option ℕ) → option_map_or (λ r. nat_lt r (length case.wants)) from true ≡ true → may_move case chosen (p, from) ≡ may_move case setting.active (p, from)
+  may_move-same : (p : Place) (from : Option ℕ) → option_map_or (λ r. nat_lt r (length case.wants)) from true ≡ true → is_movable case chosen (p, from) ≡ is_movable case setting.active (p, from)
   may_move-same p from h = ap (λ b. p.up && b && some_value case chosen p.kind) (none_or-same from h) ∙ ap (λ b. p.up && none_or_in setting.active from && b) (some_value-same p.kind)
 
   keeps-same : (p : Place) (from to : Option ℕ) → option_map_or (λ r. nat_lt r (length case.wants)) from true ≡ true → option_map_or (λ r. nat_lt r (length case.wants)) to true ≡ true
       → keeps_to_chosen case chosen ((p, from), to) ≡ keeps_to_chosen case setting.active ((p, from), to)
   keeps-same p from to h k =
-      ap (λ b. cond b (none_or_in chosen to) (option_eq nat_eq from to)) (may_move-same p from h) ∙ ap (λ b. cond (may_move case setting.active (p, from)) b (option_eq nat_eq from to)) (none_or-same to k)
+      ap (λ b. cond b (none_or_in chosen to) (option_eq nat_eq from to)) (may_move-same p from h) ∙ ap (λ b. cond (is_movable case setting.active (p, from)) b (option_eq nat_eq from to)) (none_or-same to k)
 
   module _ (allowed : region_allowed case region ≡ true) (a : Assignment) (fit : IsTrue (fits case a)) where
     abbrev all : List ((Place × Option ℕ) × Option ℕ)
@@ -229,13 +229,13 @@ module _ (case : Case) (region : Assignment) (chosen : List ℕ) where
         (list_all-at (λ o. option_map_or (λ r. nat_lt r (length case.wants)) o true) region.of i None first (and-right _ _ fits_region))
         (list_all-at (λ o. option_map_or (λ r. nat_lt r (length case.wants)) o true) a.of i None second (and-right _ _ fit)))
 
-    lists-same : list_all (keeps_to_chosen case chosen) (zip (assigned case region) a.of) ≡ list_all (keeps_to_chosen case setting.active) (zip (assigned case region) a.of)
+    lists-same : list_all (keeps_to_chosen case chosen) (zip (servers_with_places case region) a.of) ≡ list_all (keeps_to_chosen case setting.active) (zip (servers_with_places case region) a.of)
     lists-same = list_all-agree (keeps_to_chosen case chosen) (keeps_to_chosen case setting.active) all trio-same
 
-  rack-phase_allowed : region_allowed case region ≡ true → (a : Assignment) → region_allowed case a ≡ true → rack_allowed case region chosen a ≡ phase_allowed case setting a
+  pub rack-phase_allowed : region_allowed case region ≡ true → (a : Assignment) → region_allowed case a ≡ true → rack_allowed case region chosen a ≡ phase_allowed case setting a
   rack-phase_allowed allowed a good = ap (λ b. region_allowed case a && b) (lists-same allowed a (and-left _ _ (and-left _ _ good)))
 
-  rack-phase_cost : AreChosen case chosen → (a : Assignment) → rack_cost case a chosen ≡ phase_cost case setting a
+  pub rack-phase_cost : AreChosen case chosen → (a : Assignment) → rack_cost case a chosen ≡ phase_cost case setting a
   rack-phase_cost are a =
       ap (λ n. region_cost case a + n) (once-sum (rack_excess case a) (length case.wants) chosen are.there are.once ∙ sym (sum_by-filter is_chosen (rack_excess case a) (range_with_len 0 (length case.wants))))
 

@@ -7,7 +7,7 @@ use Rattle.plan_model.specs.declared.cases.Assignment.{Assignment}
 use Rattle.plan_model.specs.declared.cases.Grouping.{Grouping}
 use Rattle.plan_model.specs.Units.{want_of, server_with, units_on_board, units_on_rack, units_in_center}
 use Rattle.plan_model.specs.Costs.{board_units, greatest}
-use Rattle.plan_model.specs.Rack.{may_move}
+use Rattle.plan_model.specs.Rack.{is_movable}
 use Rattle.ip_model.specs.declared.parts.Mark.{Mark}
 use Rattle.ip_model.specs.declared.parts.Column.{Column}
 use Rattle.ip_model.specs.declared.parts.Mark.TheVariants.{Count, Share, BoardExcess, Shortage, RackExcess}
@@ -58,7 +58,7 @@ mark_at columns j = slice_get (map (λ c. c.mark) columns) j
 -- each class has, for each of its columns, the point's number of members there, and every other server stays
 pub record Expands (case : Case) (setting : Setting) (how : Grouping) (point : List ℕ) (a : Assignment) : Type 0 where
   pub size : length a.of ≡ length case.places
-  pub stays : (s : ℕ) → s < length case.places → may_move case setting.active (server_with case setting.start s) ≡ false
+  pub stays : (s : ℕ) → s < length case.places → is_movable case setting.active (server_with case setting.start s) ≡ false
       → slice_index_or a.of s None ≡ slice_index_or setting.start.of s None
   pub counts : (j class : ℕ) (to : Option ℕ) → mark_at (program_columns case setting (phase_classes case setting how)) j ≡ Some (Count class to)
       → slice_index point j ≡ members_with a to (slice_get (phase_classes case setting how) class)

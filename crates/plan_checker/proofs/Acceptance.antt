@@ -11,7 +11,7 @@ use Rattle.std.proofs.lemmas.Bool.{and_parts, and_from, eqb-true}
 use Rattle.plan_model.specs.declared.cases.Case.{Case}
 use Rattle.plan_model.specs.declared.cases.Assignment.{Assignment}
 use Rattle.plan_model.specs.declared.cases.Grouping.{Grouping}
-use Rattle.plan_model.specs.Units.{assigned, all_reservations, server_with, no_place}
+use Rattle.plan_model.specs.Units.{servers_with_places, all_reservations, server_with, no_place}
 use Rattle.plan_model.specs.Allowed.{serves, keeps_need, fits, region_allowed}
 use Rattle.plan_model.specs.Costs.{region_cost, rack_cost}
 use Rattle.plan_model.specs.Rack.{rack_allowed, keeps_to_chosen}
@@ -92,7 +92,7 @@ rack_allowed_of : (case : Case) (region : Assignment) (chosen : List ℕ) (plan 
     → IfSome plan (λ p. rack_allowed case region chosen p.of ≡ true)
 rack_allowed_of case region chosen None holds h = tt
 rack_allowed_of case region chosen (Some plan) holds h =
-    and_from _ _ holds.allowed (all_pass (keeps_to_chosen case chosen) (zip (assigned case region) plan.of.of) (map_none _ _ (or_none (fixed_reason case region chosen plan.of) _ h).0))
+    and_from _ _ holds.allowed (all_pass (keeps_to_chosen case chosen) (zip (servers_with_places case region) plan.of.of) (map_none _ _ (or_none (fixed_reason case region chosen plan.of) _ h).0))
 
 region_right : (case : Case) (document : Document) → PartInRange case document.region → region_reason case document ≡ None
     → IsRightPart case (region_setting case) document.grouping (region_allowed case) (region_cost case) document.region

@@ -11,7 +11,7 @@ use Rattle.std.proofs.lemmas.Bool.{and_parts, and_from, eqb-true, eq-eqb}
 use Rattle.plan_model.specs.declared.cases.Case.{Case}
 use Rattle.plan_model.specs.declared.cases.Assignment.{Assignment}
 use Rattle.plan_model.specs.declared.cases.Grouping.{Grouping}
-use Rattle.plan_model.specs.Units.{assigned, all_reservations, server_with, no_place}
+use Rattle.plan_model.specs.Units.{servers_with_places, all_reservations, server_with, no_place}
 use Rattle.plan_model.specs.Allowed.{serves, keeps_need, fits, region_allowed}
 use Rattle.plan_model.specs.Costs.{region_cost, rack_cost}
 use Rattle.plan_model.specs.Rack.{rack_allowed, keeps_to_chosen}
@@ -97,7 +97,7 @@ plan_right part case cost plan allowed value =
     let both = and_parts _ _ allowed in
     let first = and_parts _ _ both.0 in
     no_reason _ _
-    (no_reason _ _ (mapped _ (first_not_served case plan.of) (none_fails (serves case) (assigned case plan.of) first.1)) (needs_kept part case plan.of (all_reservations case) both.1))
+    (no_reason _ _ (mapped _ (first_not_served case plan.of) (none_fails (serves case) (servers_with_places case plan.of) first.1)) (needs_kept part case plan.of (all_reservations case) both.1))
     (not_if (plan.value == cost plan.of) (reason.Value part plan.value (cost plan.of)) (eq-eqb plan.value (cost plan.of) value))
 
 region_plans : (case : Case) (lower : Option ℕ) (plan : Option Planned) → IfSome plan (IsRightPlan (region_allowed case) (region_cost case) lower) → region_plan_reason case plan ≡ None
@@ -110,7 +110,7 @@ rack_plans case region chosen lower None right = refl
 rack_plans case region chosen lower (Some plan) right =
     let both = and_parts _ _ right.allowed in
     no_reason _ _
-    (mapped _ _ (none_fails (keeps_to_chosen case chosen) (zip (assigned case region) plan.of.of) both.1))
+    (mapped _ _ (none_fails (keeps_to_chosen case chosen) (zip (servers_with_places case region) plan.of.of) both.1))
     (plan_right phase.Rack case (λ a. rack_cost case a chosen) plan both.0 right.value)
 
 -- ---- certificates

@@ -13,7 +13,7 @@ use Rattle.plan_model.specs.declared.cases.Place.{Place}
 use Rattle.plan_model.specs.Allowed.{first_loss, fits}
 use Rattle.plan_model.proofs.SumLemmas.{length-fits}
 use Rattle.std.proofs.lemmas.Slice.Zip.{get_or-zip, length-zip}
-use Rattle.plan_model.specs.Units.{all_reservations, assigned, server_with, no_place}
+use Rattle.plan_model.specs.Units.{all_reservations, servers_with_places, server_with, no_place}
 use Rattle.plan_checker.specs.declared.verdict.PhaseName.{PhaseName}
 use Rattle.plan_checker.specs.declared.verdict.Reason.{Reason}
 use Rattle.plan_checker.specs.declared.verdict.Reason.TheVariants as reason
@@ -76,13 +76,13 @@ other-step xs ys i d p q other = rw (drop-cons xs i d p, drop-cons ys i d q, ne_
 -- ---- servers
 
 pub kept-at : (case : Case) (region a : Assignment) (s : ℕ) → IsTrue (fits case region) → IsTrue (fits case a) → s < length case.places
-    → get_or (zip (assigned case region) a.of) s ((no_place, None), None) ≡ (server_with case region s, slice_index_or a.of s None)
+    → get_or (zip (servers_with_places case region) a.of) s ((no_place, None), None) ≡ (server_with case region s, slice_index_or a.of s None)
 kept-at case region a s start fitting within =
     let same = length-fits case region start in
     let also = length-fits case a fitting in
-    get_or-zip (assigned case region) a.of s ((no_place, None), None) (omega (arith, length-zip case.places region.of, same, within)) (omega (arith, also, within))
+    get_or-zip (servers_with_places case region) a.of s ((no_place, None), None) (omega (arith, length-zip case.places region.of, same, within)) (omega (arith, also, within))
     ∙ ap (λ (p : Place × Option ℕ). (p, slice_index_or a.of s None)) (get_or-zip case.places region.of s (no_place, None) within (omega (arith, same, within)))
 
-pub kept-length : (case : Case) (region a : Assignment) → IsTrue (fits case region) → IsTrue (fits case a) → length (zip (assigned case region) a.of) ≡ length case.places
+pub kept-length : (case : Case) (region a : Assignment) → IsTrue (fits case region) → IsTrue (fits case a) → length (zip (servers_with_places case region) a.of) ≡ length case.places
 kept-length case region a start fitting =
-    omega (arith, length-zip (assigned case region) a.of, length-zip case.places region.of, length-fits case region start, length-fits case a fitting)
+    omega (arith, length-zip (servers_with_places case region) a.of, length-zip case.places region.of, length-fits case region start, length-fits case a fitting)

@@ -11,7 +11,7 @@ use Rattle.std.proofs.lemmas.Bool.{and_parts, and_from, eqb-true}
 use Rattle.plan_model.specs.declared.cases.Case.{Case}
 use Rattle.plan_model.specs.declared.cases.Assignment.{Assignment}
 use Rattle.plan_model.specs.declared.cases.Grouping.{Grouping}
-use Rattle.plan_model.specs.Units.{assigned, all_reservations, server_with, no_place}
+use Rattle.plan_model.specs.Units.{servers_with_places, all_reservations, server_with, no_place}
 use Rattle.plan_model.specs.Allowed.{serves, keeps_need, fits, region_allowed}
 use Rattle.plan_model.specs.Costs.{region_cost, rack_cost}
 use Rattle.plan_model.specs.Rack.{rack_allowed, keeps_to_chosen}
@@ -114,8 +114,8 @@ by_allowed case plan cost allowed is value least =
       places = fitting;
       serves = λ s within.
           let second : s < length a.of = omega (arith, same, within) in
-          let beside : s < length (assigned case a) = omega (arith, length-zip case.places a.of, same, within) in
-          subst (λ t. serves case t ≡ true) (get_or-zip case.places a.of s (no_place, None) within second) (list_all-at (serves case) (assigned case a) s (no_place, None) beside (and_parts _ _ first).1);
+          let beside : s < length (servers_with_places case a) = omega (arith, length-zip case.places a.of, same, within) in
+          subst (λ t. serves case t ≡ true) (get_or-zip case.places a.of s (no_place, None) within second) (list_all-at (serves case) (servers_with_places case a) s (no_place, None) beside (and_parts _ _ first).1);
       needs = λ r within. list_all-range_at (keeps_need case a) (length case.wants) r (and_parts _ _ is).1 within;
       value = value;
       least = least;

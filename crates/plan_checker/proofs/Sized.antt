@@ -5,8 +5,8 @@ use Rattle.std.proofs.lemmas.Bool.Decides.{nat_tests}
 use Rattle.plan_model.specs.declared.cases.Case.{Case}
 use Rattle.plan_model.specs.declared.cases.Grouping.{Grouping}
 use Rattle.plan_model.specs.Allowed.{fits}
-use Rattle.plan_model.specs.Units.{assigned}
-use Rattle.plan_model.specs.Rack.{may_move}
+use Rattle.plan_model.specs.Units.{servers_with_places}
+use Rattle.plan_model.specs.Rack.{is_movable}
 use Rattle.plan_model.proofs.SumLemmas.{length-fits}
 use Rattle.std.proofs.lemmas.Slice.Zip.{length-zip}
 use Rattle.std.proofs.lemmas.List.{length-map, length-replicate}
@@ -21,7 +21,7 @@ use Rattle.program_rows.specs.declared.fault.SizeFault.{SizeFault}
 use Rattle.program_rows.specs.declared.phases.Phase.{Phase}
 use Rattle.program_rows.specs.declared.phases.Phase.TheVariants.{Region, Rack}
 use Rattle.program_rows.specs.Settings.{Setting, setting_of, phase_classes, movable_flags, start_fits}
-use Rattle.symmetry_classes.specs.Groups.{flagged, classes_of}
+use Rattle.symmetry_classes.specs.Groups.{flagged_servers, classes_of}
 use Rattle.plan_checker.specs.Shape.{counts_racks}
 use Rattle.program_rows.specs.Programs.{program_base, program_columns, program_lines, program_fits}
 use Rattle.program_rows.specs.Sizes.{size_fault, size_fault_of}
@@ -32,9 +32,9 @@ racks-is case Region = refl
 racks-is case (Rack from chosen) = refl
 
 pub grouped-is : (case : Case) (phase : Phase) (how : Grouping) (racks : Bool) (flags : List Bool) → racks ≡ counts_racks phase → flags ≡ movable_flags case (setting_of case phase)
-    → classes_of how racks case (flagged flags) ≡ phase_classes case (setting_of case phase) how
+    → classes_of how racks case (flagged_servers flags) ≡ phase_classes case (setting_of case phase) how
 grouped-is case phase how racks flags r f =
-    ap (λ b. classes_of how b case (flagged flags)) (r ∙ racks-is case phase) ∙ ap (λ fs. classes_of how (setting_of case phase).racks case (flagged fs)) f
+    ap (λ b. classes_of how b case (flagged_servers flags)) (r ∙ racks-is case phase) ∙ ap (λ fs. classes_of how (setting_of case phase).racks case (flagged_servers fs)) f
 
 fits_none : (columns rows : ℕ) → size_fault columns rows ≡ None → (nat_le columns 2048 && nat_le rows 2048) ≡ true
 fits_none columns rows h = grind (arith, nat_tests)

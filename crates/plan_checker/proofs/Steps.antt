@@ -6,7 +6,7 @@ use Rattle.std.specs.List.{list_all}
 use Rattle.plan_model.specs.declared.cases.Case.{Case}
 use Rattle.plan_model.specs.declared.cases.Assignment.{Assignment}
 use Rattle.plan_model.specs.Allowed.{serves, keeps_need, first_not_served, first_loss, fits, region_allowed}
-use Rattle.plan_model.specs.Units.{assigned, all_reservations}
+use Rattle.plan_model.specs.Units.{servers_with_places, all_reservations}
 use Rattle.plan_model.proofs.AllowedLaws.{list_all-position, keeps-no_loss}
 use Rattle.std.proofs.lemmas.Bool.{and_from, eqb-true}
 use Rattle.plan_checker.specs.declared.verdict.PhaseName.{PhaseName}
@@ -32,8 +32,8 @@ map_none f (Some x) h = cc
 pub all_pass : {X : Type 0} (test : X → Bool) (xs : List X) → position (λ x. not (test x)) xs ≡ None → list_all test xs ≡ true
 all_pass test xs h = list_all-position test xs ∙ ap (λ o. not (is_some o)) h
 
-pub all_serve : (part : PhaseName) (case : Case) (a : Assignment) → serves_reason part case a ≡ None → list_all (serves case) (assigned case a) ≡ true
-all_serve part case a h = all_pass (serves case) (assigned case a) (map_none _ (first_not_served case a) h)
+pub all_serve : (part : PhaseName) (case : Case) (a : Assignment) → serves_reason part case a ≡ None → list_all (serves case) (servers_with_places case a) ≡ true
+all_serve part case a h = all_pass (serves case) (servers_with_places case a) (map_none _ (first_not_served case a) h)
 
 needs_of : (part : PhaseName) (case : Case) (a : Assignment) (rs : List ℕ) → first_need part case a rs ≡ None → list_all (keeps_need case a) rs ≡ true
 needs_of part case a [] h = refl

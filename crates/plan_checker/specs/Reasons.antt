@@ -5,7 +5,7 @@ use Rattle.std.specs.Option.{option_map_or, option_or, is_none}
 use Rattle.plan_model.specs.declared.cases.Case.{Case}
 use Rattle.plan_model.specs.declared.cases.Assignment.{Assignment}
 use Rattle.plan_model.specs.declared.cases.Grouping.{Grouping}
-use Rattle.plan_model.specs.Units.{all_reservations, assigned}
+use Rattle.plan_model.specs.Units.{all_reservations, servers_with_places}
 use Rattle.plan_model.specs.Allowed.{fits, first_not_served, first_loss}
 use Rattle.plan_model.specs.Costs.{region_cost, rack_cost}
 use Rattle.plan_model.specs.Rack.{keeps_to_chosen}
@@ -169,7 +169,7 @@ chosen_reason case document = option_map (λ place. reason.Chosen place) (chosen
 
 -- the first server that is not as the region part has it and may not be moved, or has a reservation that is not chosen
 abbrev pub fixed_reason : Case → Assignment → List ℕ → Assignment → Option Reason
-fixed_reason case region chosen a = option_map (λ s. reason.Fixed s) (position (λ s. not (keeps_to_chosen case chosen s)) (zip (assigned case region) a.of))
+fixed_reason case region chosen a = option_map (λ s. reason.Fixed s) (position (λ s. not (keeps_to_chosen case chosen s)) (zip (servers_with_places case region) a.of))
 
 abbrev pub rack_plan_reason : Case → Assignment → List ℕ → Option Planned → Option Reason
 rack_plan_reason case region chosen None = None

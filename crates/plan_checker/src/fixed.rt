@@ -3,7 +3,7 @@ ghost use Rattle.std.specs.Prelude.{◌≡◌, ◌<◌, ◌&&◌, IsTrue, All, l
 ghost use Rattle.std.specs.Option.{option_eq};
 ghost use Rattle.plan_model.specs.Units.{value_for, server_with, place_of};
 ghost use Rattle.plan_model.specs.Allowed.{fits};
-ghost use Rattle.plan_model.specs.Rack.{may_move, none_or_in, some_value, keeps_to_chosen};
+ghost use Rattle.plan_model.specs.Rack.{is_movable, none_or_in, some_value, keeps_to_chosen};
 ghost use Rattle.plan_checker.specs.Reasons.{fixed_reason};
 
 use crate::verdict::Reason;
@@ -44,9 +44,9 @@ fn some_value(case: &Case, chosen: &List<u32>, kind: u32) -> bool
 }
 
 /// Whether a server that the region part gives `from` may be moved.
-fn may_move(case: &Case, chosen: &List<u32>, place: &Place, from: Option<u32>) -> bool
+fn is_movable(case: &Case, chosen: &List<u32>, place: &Place, from: Option<u32>) -> bool
     requires { All (λ r. r < length case.now.wants) chosen.now }
-    ensures { result ≡ may_move case.now chosen.now (place.now, from) }
+    ensures { result ≡ is_movable case.now chosen.now (place.now, from) }
 {
     place.up && none_or_in(chosen, from) && some_value(case, chosen, place.kind)
 }
@@ -62,7 +62,7 @@ fn keeps_to_chosen(
     requires { All (λ r. r < length case.now.wants) chosen.now }
     ensures { result ≡ keeps_to_chosen case.now chosen.now ((place.now, from), to) }
 {
-    if may_move(case, chosen, place, from) {
+    if is_movable(case, chosen, place, from) {
         none_or_in(chosen, to)
     } else {
         from == to

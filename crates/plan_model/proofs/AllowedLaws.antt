@@ -4,7 +4,7 @@ use Rattle.std.specs.Prelude.{◌&&◌, nat_le, nat_lt, not, is_some, position, 
 use Rattle.std.specs.List.{list_all, range_with_len, prefix_len}
 use Rattle.std.proofs.lemmas.Bool.Decides.{nat_tests}
 use Rattle.std.proofs.lemmas.List.FromFn.{length-range_with_len, get_or-range_with_len}
-use Rattle.plan_model.specs.Units.{want_of, units, share_of, assigned, place_of, no_place}
+use Rattle.plan_model.specs.Units.{want_of, units, share_of, servers_with_places, place_of, no_place}
 use Rattle.plan_model.specs.Allowed.{keeps_need, survives_loss, survives_each_loss, fits, first_board_lost, first_loss}
 use Rattle.plan_model.specs.declared.cases.Case.{Case}
 use Rattle.plan_model.specs.declared.cases.Assignment.{Assignment}
@@ -76,16 +76,16 @@ nothing-counts m n = none-of (m == n)
 
 -- a sum of shares without one server
 sum-without : (case : Case) (a : Assignment) (f : Place × Option ℕ → ℕ) (s : ℕ) → IsTrue (fits case a) → s < length case.places
-    → f (place_of case s, None) ≡ 0 → sum_by f (assigned case (without_server a s)) ≤ sum_by f (assigned case a)
+    → f (place_of case s, None) ≡ 0 → sum_by f (servers_with_places case (without_server a s)) ≤ sum_by f (servers_with_places case a)
 sum-without case a f s fitting within nothing =
     let same = length-fits case a fitting in
-    let pairs : assigned case (without_server a s) ≡ set (assigned case a) s (place_of case s, None) = zip-set case.places a.of s None no_place within in
-    omega (arith, ap (sum_by f) pairs, nothing, sum_by-set f (assigned case a) s (place_of case s, None) (no_place, None) (omega (arith, length-zip case.places a.of)))
+    let pairs : servers_with_places case (without_server a s) ≡ set (servers_with_places case a) s (place_of case s, None) = zip-set case.places a.of s None no_place within in
+    omega (arith, ap (sum_by f) pairs, nothing, sum_by-set f (servers_with_places case a) s (place_of case s, None) (no_place, None) (omega (arith, length-zip case.places a.of)))
 
 pub taking-away : TakingAwayNeverRaises
 taking-away case a s r board fitting within =
-    let here = sum_by-filter (λ t. t.0.board == board) (share_of case r) (assigned case a) in
-    let there = sum_by-filter (λ t. t.0.board == board) (share_of case r) (assigned case (without_server a s)) in (
+    let here = sum_by-filter (λ t. t.0.board == board) (share_of case r) (servers_with_places case a) in
+    let there = sum_by-filter (λ t. t.0.board == board) (share_of case r) (servers_with_places case (without_server a s)) in (
       sum-without case a (share_of case r) s fitting within refl,
       omega (arith, here, there, sum-without case a (λ t. cond (t.0.board == board) (share_of case r t) 0) s fitting within (nothing-counts (place_of case s).board board)),
     )

@@ -11,7 +11,7 @@ use Rattle.std.proofs.lemmas.Bool.Decides.{nat_tests}
 use Rattle.plan_model.specs.declared.cases.Case.{Case}
 use Rattle.plan_model.specs.declared.cases.Assignment.{Assignment}
 use Rattle.plan_model.specs.declared.levels.Level.{Level}
-use Rattle.plan_model.specs.Units.{units, share_of, assigned}
+use Rattle.plan_model.specs.Units.{units, share_of, servers_with_places}
 use Rattle.plan_model.specs.Levels.{number_at, units_at, units_in_each}
 use Rattle.plan_model.specs.Costs.{excess}
 use Rattle.plan_model.proofs.SumLemmas.{sum_by-filter, sum_by-filter-le}
@@ -93,7 +93,7 @@ units_in_each-append level case a r first m n =
 
 pub sum-units_in_each-le : (level : Level) (case : Case) (a : Assignment) (r n : ℕ) → sum (units_in_each level case a r 0 n) ≤ units case a r
 sum-units_in_each-le level case a r n =
-    omega (arith, sum-map (units_at level case a r) (range_with_len 0 n), sum-parts_below (λ s. number_at level s.0) (share_of case r) (assigned case a) n, sum_by-filter-le (λ s. nat_lt (number_at level s.0) n) (share_of case r) (assigned case a))
+    omega (arith, sum-map (units_at level case a r) (range_with_len 0 n), sum-parts_below (λ s. number_at level s.0) (share_of case r) (servers_with_places case a) n, sum_by-filter-le (λ s. nat_lt (number_at level s.0) n) (share_of case r) (servers_with_places case a))
 
 -- the excess and the sum of two blocks, one after the other
 pub excess-blocks : (limit : ℕ) (level : Level) (case : Case) (a : Assignment) (r first n : ℕ)

@@ -2,7 +2,7 @@
 use Rattle.std.proofs.Common.{◌≡◌, ℕ, zero, suc, ◌+◌, ◌<◌, ◌≤◌, Bool, true, false, cond, List, [], ◌∷◌, length, take, get_or, arith, ap, sym, ◌∙◌, refl}
 use Rattle.std.specs.Prelude.{sum_by, zip, IsTrue, filter, not, Option, nat_le}
 use Rattle.plan_model.specs.declared.cases.Place.{Place}
-use Rattle.plan_model.specs.Units.{share_of, units, assigned, value_for, want_of, is_for}
+use Rattle.plan_model.specs.Units.{share_of, units, servers_with_places, value_for, want_of, is_for}
 use Rattle.std.proofs.lemmas.List.Sums.{sum_by_more, sum_by-cons, sum_by-le}
 use Rattle.std.proofs.lemmas.List.Filters.{sum_by-filter_both}
 use Rattle.std.proofs.lemmas.List.{take_all}
@@ -63,4 +63,4 @@ share-most case r s within = amount-most (is_for r s.1) (value_for case r s.0.ki
 pub units-most : (case : Case) (a : Assignment) (r : ℕ) → IsTrue (fits case a) → r < length case.wants → units case a r ≤ 20000000
 units-most case a r fitting within =
     let same = length-fits case a fitting in
-    omega (arith, sum_by-le (share_of case r) 1000 (assigned case a) (λ k d inside. share-most case r (get_or (assigned case a) k d) within), length-zip case.places a.of, few-places case)
+    omega (arith, sum_by-le (share_of case r) 1000 (servers_with_places case a) (λ k d inside. share-most case r (get_or (servers_with_places case a) k d) within), length-zip case.places a.of, few-places case)

@@ -5,7 +5,7 @@ use Rattle.std.specs.Option.{option_map_or}
 use Rattle.plan_model.specs.declared.cases.Place.{Place}
 use Rattle.plan_model.specs.declared.cases.Case.{Case}
 use Rattle.plan_model.specs.declared.cases.Assignment.{Assignment}
-use Rattle.plan_model.specs.Units.{all_reservations, value_for, want_of, assigned, units, units_on_board}
+use Rattle.plan_model.specs.Units.{all_reservations, value_for, want_of, servers_with_places, units, units_on_board}
 
 -- one place for each server, and each reservation that is named is there
 abbrev pub fits : Case → Assignment → Bool
@@ -30,11 +30,11 @@ keeps_need case a r = nat_le (want_of case r).need (units case a r) && survives_
 -- every server serves, and every reservation keeps its need
 abbrev pub region_allowed : Case → Assignment → Bool
 region_allowed case a =
-    fits case a && list_all (serves case) (assigned case a) && list_all (keeps_need case a) (all_reservations case)
+    fits case a && list_all (serves case) (servers_with_places case a) && list_all (keeps_need case a) (all_reservations case)
 
 -- the first server that does not serve
 abbrev pub first_not_served : Case → Assignment → Option ℕ
-first_not_served case a = position (λ s. not (serves case s)) (assigned case a)
+first_not_served case a = position (λ s. not (serves case s)) (servers_with_places case a)
 
 -- the first switchboard whose loss leaves less than r needs
 abbrev pub first_board_lost : Case → Assignment → ℕ → Option ℕ

@@ -9,7 +9,7 @@ use Rattle.ras_requests.specs.declared.requests.Moves.{Moves}
 use Rattle.plan_model.specs.declared.cases.Goal.{Goal}
 use Rattle.plan_model.specs.declared.cases.Case.{Case}
 use Rattle.plan_model.specs.declared.cases.Assignment.{Assignment}
-use Rattle.plan_model.specs.Units.{all_reservations, want_of, is_for, assigned, units_on_board, units_on_rack, units_in_center}
+use Rattle.plan_model.specs.Units.{all_reservations, want_of, is_for, servers_with_places, units_on_board, units_on_rack, units_in_center}
 
 -- the cost at an up server: a server that nobody of the requests holds costs `take` where it gets a reservation,
 -- and a held one costs `busy` or `idle` where it does not get the reservation that holds it
@@ -52,7 +52,7 @@ terms_cost case a r =
 -- the moves, and each reservation's terms
 abbrev pub region_cost : Case → Assignment → ℕ
 region_cost case a =
-    sum_by (move_cost case.moves) (assigned case a) + sum_by (terms_cost case a) (all_reservations case)
+    sum_by (move_cost case.moves) (servers_with_places case a) + sum_by (terms_cost case a) (all_reservations case)
 
 abbrev pub rack_excess : Case → Assignment → ℕ → ℕ
 rack_excess case a r = (want_of case r).rack_weight * excess (want_of case r).rack_limit (rack_units case a r)

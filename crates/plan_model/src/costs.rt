@@ -1,5 +1,5 @@
 ghost use Rattle.std.specs.Prelude.{◌≡◌, ◌<◌, ◌≤◌, ◌+◌, ◌*◌, ◌-◌, IsTrue, length, sum, sum_by, min};
-ghost use Rattle.plan_model.specs.Units.{want_of, server_with, assigned};
+ghost use Rattle.plan_model.specs.Units.{want_of, server_with, servers_with_places};
 ghost use Rattle.plan_model.specs.Allowed.{fits};
 ghost use Rattle.plan_model.specs.Levels.{units_in_each};
 ghost use Rattle.plan_model.specs.declared.levels.Level.TheVariants.{Rack};
@@ -48,7 +48,7 @@ pub fn move_cost(case: &Case, a: &Assignment, server: u32) -> u64
 /// What the moves of all servers cost.
 fn moves_cost(case: &Case, a: &Assignment) -> u64
     requires { IsTrue (fits case.now a.now) }
-    ensures cost { result ≡ sum_by (move_cost_of case.now.moves) (assigned case.now a.now) }
+    ensures cost { result ≡ sum_by (move_cost_of case.now.moves) (servers_with_places case.now a.now) }
     ensures most { result ≤ 200000000 }
 {
     let places = case.places.as_slice();

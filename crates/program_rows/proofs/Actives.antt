@@ -11,9 +11,9 @@ use Rattle.std.proofs.lemmas.Slice.Zip.{get_or-zip, length-zip}
 use Rattle.std.proofs.lemmas.Bool.{eqb-true, eq-eqb}
 use Rattle.std.proofs.lemmas.Bool.Decides.{nat_tests}
 use Rattle.plan_model.specs.declared.cases.Case.{Case}
-use Rattle.plan_model.specs.Units.{value_for, all_reservations, assigned, server_with, no_place, free_plan}
+use Rattle.plan_model.specs.Units.{value_for, all_reservations, servers_with_places, server_with, no_place, free_plan}
 use Rattle.plan_model.specs.Allowed.{fits}
-use Rattle.plan_model.specs.Rack.{some_value, none_or_in, may_move}
+use Rattle.plan_model.specs.Rack.{some_value, none_or_in, is_movable}
 use Rattle.plan_model.proofs.NumberLemmas.{range_more}
 use Rattle.plan_model.proofs.SumLemmas.{length-fits, sum_by-filter-le}
 use Rattle.plan_model.proofs.CaseFacts.{list_all-at}
@@ -154,11 +154,11 @@ same-length : (case : Case) (phase : Phase) → start_fits case phase ≡ true �
 same-length case Region fit = length-replicate (length case.places) None
 same-length case (Rack from chosen) fit = length-fits case from.now fit
 
-pub length-assigned : (case : Case) (phase : Phase) → start_fits case phase ≡ true → length (assigned case (setting_of case phase).start) ≡ length case.places
+pub length-assigned : (case : Case) (phase : Phase) → start_fits case phase ≡ true → length (servers_with_places case (setting_of case phase).start) ≡ length case.places
 length-assigned case phase fit = let same = same-length case phase fit in omega (arith, length-zip case.places (setting_of case phase).start.of, same)
 
 pub assigned-at : (case : Case) (phase : Phase) → start_fits case phase ≡ true → (s : ℕ) → s < length case.places
-    → get_or (assigned case (setting_of case phase).start) s (no_place, None) ≡ server_with case (setting_of case phase).start s
+    → get_or (servers_with_places case (setting_of case phase).start) s (no_place, None) ≡ server_with case (setting_of case phase).start s
 assigned-at case phase fit s within =
     let same = same-length case phase fit in
     get_or-zip case.places (setting_of case phase).start.of s (no_place, None) within (omega (arith, same, within))
@@ -167,21 +167,21 @@ pub length-flags : (case : Case) (phase : Phase) → start_fits case phase ≡ t
 length-flags case phase fit =
     let setting = setting_of case phase in
     let same = same-length case phase fit in
-    omega (arith, length-map (assigned case setting.start) (may_move case setting.active), length-zip case.places setting.start.of, same)
+    omega (arith, length-map (servers_with_places case setting.start) (is_movable case setting.active), length-zip case.places setting.start.of, same)
 
 pub flag-at : (case : Case) (phase : Phase) → start_fits case phase ≡ true → (s : ℕ) → s < length case.places
-    → get_or (movable_flags case (setting_of case phase)) s false ≡ may_move case (setting_of case phase).active (server_with case (setting_of case phase).start s)
+    → get_or (movable_flags case (setting_of case phase)) s false ≡ is_movable case (setting_of case phase).active (server_with case (setting_of case phase).start s)
 flag-at case phase fit s within =
     let setting = setting_of case phase in
     let same = same-length case phase fit in
     let second : s < length setting.start.of = omega (arith, same, within) in
-    let beside : s < length (assigned case setting.start) = omega (arith, length-zip case.places setting.start.of, same, within) in
-    get_or-map (may_move case setting.active) (assigned case setting.start) s (no_place, None) false beside
-    ∙ ap (may_move case setting.active) (get_or-zip case.places setting.start.of s (no_place, None) within second)
+    let beside : s < length (servers_with_places case setting.start) = omega (arith, length-zip case.places setting.start.of, same, within) in
+    get_or-map (is_movable case setting.active) (servers_with_places case setting.start) s (no_place, None) false beside
+    ∙ ap (is_movable case setting.active) (get_or-zip case.places setting.start.of s (no_place, None) within second)
 
 pub flags-more : (case : Case) (phase : Phase) → start_fits case phase ≡ true → (s : ℕ) → s < length case.places
     → take (s + 1) (movable_flags case (setting_of case phase))
-    ≡ take s (movable_flags case (setting_of case phase)) ++ may_move case (setting_of case phase).active (server_with case (setting_of case phase).start s) ∷ []
+    ≡ take s (movable_flags case (setting_of case phase)) ++ is_movable case (setting_of case phase).active (server_with case (setting_of case phase).start s) ∷ []
 flags-more case phase fit s within =
     let flags = movable_flags case (setting_of case phase) in
     let inside : s < length flags = omega (arith, length-flags case phase fit, within) in

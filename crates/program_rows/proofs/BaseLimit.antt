@@ -14,9 +14,9 @@ use Rattle.plan_model.specs.declared.cases.Assignment.{Assignment}
 use Rattle.plan_model.specs.declared.cases.Grouping.{Grouping}
 use Rattle.plan_model.specs.CaseRule.{goal_in_range}
 use Rattle.ip_model.specs.Limits.{KeepsLimits}
-use Rattle.plan_model.specs.Units.{want_of, value_for, is_for, share_of, assigned, all_reservations, units, units_on_board, units_in_center}
+use Rattle.plan_model.specs.Units.{want_of, value_for, is_for, share_of, servers_with_places, all_reservations, units, units_on_board, units_in_center}
 use Rattle.plan_model.specs.Costs.{move_cost, up_move_cost, greatest, board_units, excess, shortage_cost, terms_cost}
-use Rattle.plan_model.specs.Rack.{may_move}
+use Rattle.plan_model.specs.Rack.{is_movable}
 use Rattle.plan_model.proofs.SumLemmas.{length-fits, few-places, sum_by-filter, sum_by-filter-le}
 use Rattle.plan_model.proofs.NumberLemmas.{mul-le-bounds}
 use Rattle.plan_model.proofs.CaseFacts.{list_all-at, near-in_range, want-limits}
@@ -81,25 +81,25 @@ apart-most f n (x ∷ xs) =
     omega (arith, split, mine, less, rest, sum_by-cons f x xs)
 
 module _ (case : Case) (a : Assignment) (same : length a.of ≡ length case.places) where
-  assigned-few : length (assigned case a) ≤ 20000
+  assigned-few : length (servers_with_places case a) ≤ 20000
   assigned-few = let pairs = length-zip case.places a.of in let few = few-places case in omega (arith, pairs, few, same)
 
   pub units-few : (r : ℕ) → r < length case.wants → units case a r ≤ 20000000
   units-few r within =
-      let most = most-all (share_of case r) (λ _. 1000) (assigned case a) (λ k d inside. let s = get_or (assigned case a) k d in cond-under (is_for r s.1) (value_for case r s.0.kind) 1000 (value-most case r s.0.kind within)) in
-      let sum = constants 1000 (assigned case a) in
+      let most = most-all (share_of case r) (λ _. 1000) (servers_with_places case a) (λ k d inside. let s = get_or (servers_with_places case a) k d in cond-under (is_for r s.1) (value_for case r s.0.kind) 1000 (value-most case r s.0.kind within)) in
+      let sum = constants 1000 (servers_with_places case a) in
       omega (arith, most, sum, assigned-few)
 
   board-few : (r board : ℕ) → units_on_board case a r board ≤ units case a r
-  board-few r board = sum_by-filter-le (λ s. s.0.board == board) (share_of case r) (assigned case a)
+  board-few r board = sum_by-filter-le (λ s. s.0.board == board) (share_of case r) (servers_with_places case a)
 
   excess-few : (r limit : ℕ) → excess limit (board_units case a r) ≤ units case a r
   excess-few r limit =
       let numbers = range_with_len 0 case.boards in
       let by_board = sum_by-map (λ n. n - limit) (units_on_board case a r) numbers in
-      let less = most-all (λ b. units_on_board case a r b - limit) (λ b. sum_by (λ s. cond (s.0.board == b) (share_of case r s) 0) (assigned case a)) numbers
-      (λ k d inside. let b = get_or numbers k d in let filtered = sum_by-filter (λ s. s.0.board == b) (share_of case r) (assigned case a) in omega (arith, filtered)) in
-      let apart = apart-most (share_of case r) case.boards (assigned case a) in
+      let less = most-all (λ b. units_on_board case a r b - limit) (λ b. sum_by (λ s. cond (s.0.board == b) (share_of case r s) 0) (servers_with_places case a)) numbers
+      (λ k d inside. let b = get_or numbers k d in let filtered = sum_by-filter (λ s. s.0.board == b) (share_of case r) (servers_with_places case a) in omega (arith, filtered)) in
+      let apart = apart-most (share_of case r) case.boards (servers_with_places case a) in
       omega (arith, by_board, less, apart)
 
   near-few : (r : ℕ) → r < length case.wants → sum_by (shortage_cost case a r) (want_of case r).near ≤ 1600000000000
@@ -128,10 +128,10 @@ module _ (case : Case) (a : Assignment) (same : length a.of ≡ length case.plac
       let third = near-few r within in
       omega (arith, first, second, third)
 
-  moves-few : sum_by (move_cost case.moves) (assigned case a) ≤ 200000000
+  moves-few : sum_by (move_cost case.moves) (servers_with_places case a) ≤ 200000000
   moves-few =
-      let most = most-all (move_cost case.moves) (λ _. 10000) (assigned case a) (λ k d inside. let s = get_or (assigned case a) k d in cond-under s.0.up (up_move_cost case.moves s.0.holder s.0.busy s.1) 10000 (move-most case s.0.holder s.0.busy s.1)) in
-      let sum = constants 10000 (assigned case a) in
+      let most = most-all (move_cost case.moves) (λ _. 10000) (servers_with_places case a) (λ k d inside. let s = get_or (servers_with_places case a) k d in cond-under s.0.up (up_move_cost case.moves s.0.holder s.0.busy s.1) 10000 (move-most case s.0.holder s.0.busy s.1)) in
+      let sum = constants 10000 (servers_with_places case a) in
       omega (arith, most, sum, assigned-few)
 
   all-terms-few : sum_by (terms_cost case a) (all_reservations case) ≤ 128000000000000
@@ -145,7 +145,7 @@ module _ (case : Case) (a : Assignment) (same : length a.of ≡ length case.plac
 pub base-few : (case : Case) (setting : Setting) → IsStart case setting → program_base case setting ≤ 2 ^ 48
 base-few case setting phase =
     let same = length-fits case setting.start phase.fit in
-    let moves = sum_by-filter-le (λ s. not (may_move case setting.active s)) (move_cost case.moves) (assigned case setting.start) in
+    let moves = sum_by-filter-le (λ s. not (is_movable case setting.active s)) (move_cost case.moves) (servers_with_places case setting.start) in
     let terms = sum_by-filter-le (λ r. not (is_active setting r)) (terms_cost case setting.start) (all_reservations case) in
     let few = moves-few case setting.start same in
     let all = all-terms-few case setting.start same in

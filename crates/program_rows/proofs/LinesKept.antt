@@ -9,7 +9,7 @@ use Rattle.plan_model.specs.declared.cases.Holder.{Holder}
 use Rattle.plan_model.specs.declared.cases.Holder.TheVariants.{Free, Held, Gone}
 use Rattle.ras_requests.specs.declared.requests.Moves.{Moves}
 use Rattle.plan_model.specs.Costs.{up_move_cost}
-use Rattle.plan_model.specs.Rack.{may_move}
+use Rattle.plan_model.specs.Rack.{is_movable}
 use Rattle.plan_model.proofs.SumLemmas.{length-fits, few-places}
 use Rattle.program_rows.proofs.PhaseSums.{most-all}
 use Rattle.program_rows.proofs.Lists.{all-at, length_map}
@@ -21,7 +21,7 @@ use Rattle.plan_model.specs.declared.cases.Case.{Case}
 use Rattle.plan_model.specs.declared.cases.Goal.{Goal}
 use Rattle.plan_model.specs.declared.cases.Grouping.{Grouping}
 use Rattle.plan_model.specs.CaseRule.{goal_in_range}
-use Rattle.plan_model.specs.Units.{want_of, value_for, is_for, place_of, assigned}
+use Rattle.plan_model.specs.Units.{want_of, value_for, is_for, place_of, servers_with_places}
 use Rattle.plan_model.proofs.CaseFacts.{list_all-at, want-in_range, near-in_range, want-limits}
 use Rattle.symmetry_classes.specs.declared.groups.Class.{Class}
 use Rattle.symmetry_classes.specs.Groups.{same_class, class_of, first_of_each}
@@ -144,7 +144,7 @@ servers-few case setting phase =
     let named : length (map (λ e. e.0) numbered) ≡ length numbered = length_map (λ e. e.0) numbered in
     let less = length-filter (λ e. e.1) (enumerate_from 0 flags) in
     let all = length-enumerate flags 0 in
-    let tests = length_map (may_move case setting.active) (assigned case setting.start) in
+    let tests = length_map (is_movable case setting.active) (servers_with_places case setting.start) in
     let start = length-fits case setting.start phase.fit in
     let few = few-places case in
     omega (arith, named, less, all, tests, start, few, length-zip case.places setting.start.of)

@@ -11,10 +11,10 @@ use Rattle.plan_model.specs.declared.cases.Place.{Place}
 use Rattle.plan_model.specs.declared.cases.Case.{Case}
 use Rattle.plan_model.specs.declared.cases.Assignment.{Assignment}
 use Rattle.plan_model.specs.declared.cases.Grouping.{Grouping}
-use Rattle.plan_model.specs.Units.{value_for, place_of, server_with, assigned, all_reservations}
+use Rattle.plan_model.specs.Units.{value_for, place_of, server_with, servers_with_places, all_reservations}
 use Rattle.plan_model.specs.Allowed.{serves}
 use Rattle.plan_model.specs.Costs.{move_cost, up_move_cost, terms_cost, region_cost}
-use Rattle.plan_model.specs.Rack.{may_move, none_or_in}
+use Rattle.plan_model.specs.Rack.{is_movable, none_or_in}
 use Rattle.plan_model.proofs.SumLemmas.{length-fits, sum_by-filter}
 use Rattle.symmetry_classes.specs.declared.groups.Class.{Class}
 use Rattle.symmetry_classes.specs.Groups.{same_class, class_of, first_of_each}
@@ -150,7 +150,7 @@ module _ (case : Case) (setting : Setting) (phase : IsPhase case setting) (a : A
   abbrev unsettled : Place × Option ℕ → ℕ
   unsettled s = cond (settles case setting s) 0 1
 
-  settles-at : (p : Place) (from to : Option ℕ) → LawfulAt case setting ((p, from), to) → (b : Bool) → may_move case setting.active (p, from) ≡ b → cond b (unsettled (p, to)) 0 ≡ 0
+  settles-at : (p : Place) (from to : Option ℕ) → LawfulAt case setting ((p, from), to) → (b : Bool) → is_movable case setting.active (p, from) ≡ b → cond b (unsettled (p, to)) 0 ≡ 0
   settles-at p from to at false e = refl
   settles-at p from to at true e =
       ap (λ z. cond z 0 1)
@@ -161,9 +161,9 @@ module _ (case : Case) (setting : Setting) (phase : IsPhase case setting) (a : A
       let all = trio case setting phase a (length-fits case a lawful.fit) in
       let none : sum_by (λ t. unsettled (server_with case a t)) servers ≡ 0 =
       movable-sum case setting phase a (length-fits case a lawful.fit) unsettled
-      ∙ same-all (λ s. cond (may_move case setting.active s.0) (unsettled (s.0.0, s.1)) 0) (λ _. 0) all
+      ∙ same-all (λ s. cond (is_movable case setting.active s.0) (unsettled (s.0.0, s.1)) 0) (λ _. 0) all
       (λ k d inside. let s = get_or all k d in
-      settles-at s.0.0 s.0.1 s.1 (lawful-at case setting phase a (length-fits case a lawful.fit) lawful k d inside) (may_move case setting.active s.0) refl)
+      settles-at s.0.0 s.0.1 s.1 (lawful-at case setting phase a (length-fits case a lawful.fit) lawful k d inside) (is_movable case setting.active s.0) refl)
       ∙ sum_by-zero (λ _. 0) (λ _. refl) all in
       let zeros = zero-all (λ t. unsettled (server_with case a t)) servers none in
       λ k d inside. passed (settles case setting (server_with case a (get_or servers k d))) (zeros k d inside)
@@ -249,18 +249,18 @@ module _ (case : Case) (setting : Setting) (phase : IsPhase case setting) (a : A
       pub base-counts-terms : program_base case setting + sum_by column_cost (flat_map (count_columns case setting) (enumerate_from 0 (phase_classes case setting how)))
           + sum_by (terms_cost case a) setting.active ≡ region_cost case a
       base-counts-terms =
-          let h : Place × Option ℕ → Bool = may_move case setting.active in
+          let h : Place × Option ℕ → Bool = is_movable case setting.active in
           let f : Place × Option ℕ → ℕ = move_cost case.moves in
           let all = trio case setting phase a (length-fits case a lawful.fit) in
           let numbers = all_reservations case in
           let movable = counts-cost ∙ movable-sum case setting phase a (length-fits case a lawful.fit) f in
-          let fixed : sum_by f (filter (λ s. not (h s)) (assigned case setting.start)) ≡ sum_by (λ s. cond (not (h s.0)) (f (s.0.0, s.1)) 0) all =
-          sum_by-filter (λ s. not (h s)) f (assigned case setting.start)
+          let fixed : sum_by f (filter (λ s. not (h s)) (servers_with_places case setting.start)) ≡ sum_by (λ s. cond (not (h s.0)) (f (s.0.0, s.1)) 0) all =
+          sum_by-filter (λ s. not (h s)) f (servers_with_places case setting.start)
           ∙ start-sum case setting phase a (length-fits case a lawful.fit) (λ s. cond (not (h s)) (f s) 0)
           ∙ same-all (λ s. cond (not (h s.0)) (f s.0) 0) (λ s. cond (not (h s.0)) (f (s.0.0, s.1)) 0) all
           (λ k d inside. let s = get_or all k d in
           not-cond (h s.0) (f s.0) (f (s.0.0, s.1)) (λ e. ap (λ o. f (s.0.0, o)) (stays-at case setting s.0.0 s.0.1 s.1 (lawful-at case setting phase a (length-fits case a lawful.fit) lawful k d inside) e))) in
-          let parts : sum_by (λ s. cond (h s.0) (f (s.0.0, s.1)) 0 + cond (not (h s.0)) (f (s.0.0, s.1)) 0) all ≡ sum_by f (assigned case a) =
+          let parts : sum_by (λ s. cond (h s.0) (f (s.0.0, s.1)) 0 + cond (not (h s.0)) (f (s.0.0, s.1)) 0) all ≡ sum_by f (servers_with_places case a) =
           sum_by-same (λ s. cond (h s.0) (f (s.0.0, s.1)) 0 + cond (not (h s.0)) (f (s.0.0, s.1)) 0) (λ s. f (s.0.0, s.1)) (λ s. cond-both (h s.0) (f (s.0.0, s.1))) all
           ∙ sym (assigned-sum case setting phase a (length-fits case a lawful.fit) f) in
           let split = sum_by-plus (λ s. cond (h s.0) (f (s.0.0, s.1)) 0) (λ s. cond (not (h s.0)) (f (s.0.0, s.1)) 0) all in

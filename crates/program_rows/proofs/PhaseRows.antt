@@ -9,10 +9,10 @@ use Rattle.plan_model.specs.declared.cases.Place.{Place}
 use Rattle.plan_model.specs.declared.cases.Case.{Case}
 use Rattle.plan_model.specs.declared.cases.Assignment.{Assignment}
 use Rattle.plan_model.specs.declared.cases.Grouping.{Grouping}
-use Rattle.plan_model.specs.Units.{value_for, share_of, units, units_where, units_on_board, units_in_center, assigned, place_of, server_with, want_of}
+use Rattle.plan_model.specs.Units.{value_for, share_of, units, units_where, units_on_board, units_in_center, servers_with_places, place_of, server_with, want_of}
 use Rattle.plan_model.specs.Allowed.{keeps_need, survives_loss}
 use Rattle.plan_model.specs.Costs.{terms_cost, greatest, board_units, excess, shortage_cost}
-use Rattle.plan_model.specs.Rack.{may_move, none_or_in, some_value}
+use Rattle.plan_model.specs.Rack.{is_movable, none_or_in, some_value}
 use Rattle.plan_model.proofs.SumLemmas.{length-fits, sum_by-filter}
 use Rattle.symmetry_classes.specs.declared.groups.Class.{Class}
 use Rattle.symmetry_classes.specs.Groups.{class_of, same_class}
@@ -59,13 +59,13 @@ then-of false x y e h = cc
 
 -- a server that may not be moved stays, and one that may goes to none or an active reservation
 pub stays-at : (case : Case) (setting : Setting) (p : Place) (from to : Option ℕ) → LawfulAt case setting ((p, from), to)
-    → may_move case setting.active (p, from) ≡ false → from ≡ to
+    → is_movable case setting.active (p, from) ≡ false → from ≡ to
 stays-at case setting p from to at fixed =
-    option_eq-true from to (else-of (may_move case setting.active (p, from)) (none_or_in setting.active to) (option_eq nat_eq from to) fixed at.keeps)
+    option_eq-true from to (else-of (is_movable case setting.active (p, from)) (none_or_in setting.active to) (option_eq nat_eq from to) fixed at.keeps)
 
 pub goes-at : (case : Case) (setting : Setting) (p : Place) (from to : Option ℕ) → LawfulAt case setting ((p, from), to)
-    → may_move case setting.active (p, from) ≡ true → none_or_in setting.active to ≡ true
-goes-at case setting p from to at moves = then-of (may_move case setting.active (p, from)) (none_or_in setting.active to) (option_eq nat_eq from to) moves at.keeps
+    → is_movable case setting.active (p, from) ≡ true → none_or_in setting.active to ≡ true
+goes-at case setting p from to at moves = then-of (is_movable case setting.active (p, from)) (none_or_in setting.active to) (option_eq nat_eq from to) moves at.keeps
 
 -- an active reservation's value above 0 is some active reservation's
 pub active-some_value : (case : Case) (setting : Setting) (q kind : ℕ) → is_active setting q ≡ true → nat_lt 0 (value_for case q kind) ≡ true → some_value case setting.active kind ≡ true
@@ -74,18 +74,18 @@ active-some_value case setting q kind active valued =
 
 -- a server that may not be moved gives an active reservation nothing
 fixed-share_by : (case : Case) (setting : Setting) (r : ℕ) → is_active setting r ≡ true → (p : Place) (from : Option ℕ) (q : ℕ) → LawfulAt case setting ((p, from), Some q)
-    → may_move case setting.active (p, from) ≡ false → (b : Bool) → (q == r) ≡ b → cond b (value_for case r p.kind) 0 ≡ 0
+    → is_movable case setting.active (p, from) ≡ false → (b : Bool) → (q == r) ≡ b → cond b (value_for case r p.kind) 0 ≡ 0
 fixed-share_by case setting r active p from q at fixed false e = refl
 fixed-share_by case setting r active p from q at fixed true e =
     let same : from ≡ Some q = stays-at case setting p from (Some q) at fixed in
     let there : is_active setting q ≡ true = ap (is_active setting) (eqb-true q r e) ∙ active in
-    let moves : may_move case setting.active (p, Some q) ≡ true =
+    let moves : is_movable case setting.active (p, Some q) ≡ true =
     both _ _ (both p.up (none_or_in setting.active (Some q)) (and-left _ _ at.serve) there) (active-some_value case setting q p.kind there (and-right _ _ at.serve)) in
-    let clash : true ≡ false = sym moves ∙ ap (λ o. may_move case setting.active (p, o)) (sym same) ∙ fixed in
+    let clash : true ≡ false = sym moves ∙ ap (λ o. is_movable case setting.active (p, o)) (sym same) ∙ fixed in
     cc
 
 pub fixed-share : (case : Case) (setting : Setting) (r : ℕ) → is_active setting r ≡ true → (p : Place) (from to : Option ℕ) → LawfulAt case setting ((p, from), to)
-    → may_move case setting.active (p, from) ≡ false → share_of case r (p, to) ≡ 0
+    → is_movable case setting.active (p, from) ≡ false → share_of case r (p, to) ≡ 0
 fixed-share case setting r active p from None at fixed = refl
 fixed-share case setting r active p from (Some q) at fixed = fixed-share_by case setting r active p from q at fixed (q == r) refl
 
@@ -100,7 +100,7 @@ none-share case setting r idle p None h = refl
 none-share case setting r idle p (Some q) h = none-share_by case setting r idle p q h (q == r) refl
 
 inactive-share_by : (case : Case) (setting : Setting) (r : ℕ) → is_active setting r ≡ false → (p : Place) (from to : Option ℕ) → LawfulAt case setting ((p, from), to)
-    → (b : Bool) → may_move case setting.active (p, from) ≡ b → share_of case r (p, to) ≡ share_of case r (p, from)
+    → (b : Bool) → is_movable case setting.active (p, from) ≡ b → share_of case r (p, to) ≡ share_of case r (p, from)
 inactive-share_by case setting r idle p from to at false e = ap (λ o. share_of case r (p, o)) (sym (stays-at case setting p from to at e))
 inactive-share_by case setting r idle p from to at true e =
     none-share case setting r idle p to (goes-at case setting p from to at e) ∙ sym (none-share case setting r idle p from (and-right _ _ (and-left _ _ e)))
@@ -136,28 +136,28 @@ module _ (case : Case) (setting : Setting) (phase : IsPhase case setting) (a : A
       let given : Place × Option ℕ → ℕ = λ s. cond (test s.0) (share_of case r s) 0 in
       let servers = trio case setting phase a (length-fits case a lawful.fit) in
       movable-sum case setting phase a (length-fits case a lawful.fit) given
-      ∙ same-all (λ s. cond (may_move case setting.active s.0) (given (s.0.0, s.1)) 0) (λ s. given (s.0.0, s.1)) servers
+      ∙ same-all (λ s. cond (is_movable case setting.active s.0) (given (s.0.0, s.1)) 0) (λ s. given (s.0.0, s.1)) servers
       (λ k d inside. let s = get_or servers k d in
-      movable-term (test s.0.0) (may_move case setting.active s.0) (share_of case r (s.0.0, s.1))
+      movable-term (test s.0.0) (is_movable case setting.active s.0) (share_of case r (s.0.0, s.1))
       (fixed-share case setting r active s.0.0 s.0.1 s.1 (lawful-at case setting phase a (length-fits case a lawful.fit) lawful k d inside)))
       ∙ sym (assigned-sum case setting phase a (length-fits case a lawful.fit) given)
-      ∙ sym (sum_by-filter (λ s. test s.0) (share_of case r) (assigned case a))
+      ∙ sym (sum_by-filter (λ s. test s.0) (share_of case r) (servers_with_places case a))
 
   -- a reservation that is not active has what it has at the start
   inactive-sum : (r : ℕ) → is_active setting r ≡ false → (test : Place → Bool)
-      → sum_by (λ s. cond (test s.0) (share_of case r s) 0) (assigned case a) ≡ sum_by (λ s. cond (test s.0) (share_of case r s) 0) (assigned case setting.start)
+      → sum_by (λ s. cond (test s.0) (share_of case r s) 0) (servers_with_places case a) ≡ sum_by (λ s. cond (test s.0) (share_of case r s) 0) (servers_with_places case setting.start)
   inactive-sum r idle test =
       let given : Place × Option ℕ → ℕ = λ s. cond (test s.0) (share_of case r s) 0 in
       let servers = trio case setting phase a (length-fits case a lawful.fit) in
       assigned-sum case setting phase a (length-fits case a lawful.fit) given
       ∙ same-all (λ s. given (s.0.0, s.1)) (λ s. given s.0) servers
       (λ k d inside. let s = get_or servers k d in
-      ap (λ n. cond (test s.0.0) n 0) (inactive-share_by case setting r idle s.0.0 s.0.1 s.1 (lawful-at case setting phase a (length-fits case a lawful.fit) lawful k d inside) (may_move case setting.active s.0) refl))
+      ap (λ n. cond (test s.0.0) n 0) (inactive-share_by case setting r idle s.0.0 s.0.1 s.1 (lawful-at case setting phase a (length-fits case a lawful.fit) lawful k d inside) (is_movable case setting.active s.0) refl))
       ∙ sym (start-sum case setting phase a (length-fits case a lawful.fit) given)
 
   pub inactive-where : (r : ℕ) → is_active setting r ≡ false → (test : Place → Bool) → units_where test case a r ≡ units_where test case setting.start r
   inactive-where r idle test =
-      sum_by-filter (λ s. test s.0) (share_of case r) (assigned case a) ∙ inactive-sum r idle test ∙ sym (sum_by-filter (λ s. test s.0) (share_of case r) (assigned case setting.start))
+      sum_by-filter (λ s. test s.0) (share_of case r) (servers_with_places case a) ∙ inactive-sum r idle test ∙ sym (sum_by-filter (λ s. test s.0) (share_of case r) (servers_with_places case setting.start))
 
   pub inactive-units : (r : ℕ) → is_active setting r ≡ false → units case a r ≡ units case setting.start r
   inactive-units r idle = inactive-sum r idle (λ _. true)
@@ -198,7 +198,7 @@ module _ (case : Case) (setting : Setting) (phase : IsPhase case setting) (a : A
         let factor : Mark → ℕ = units_at case (phase_classes case setting how) (λ _. true) r in
         term_sum-line (columns_of case setting how) Total (λ mark. pos (factor mark)) (pos (want_of case r).need) number
         ∙ column_sum-pos factor number (columns_of case setting how)
-        ∙ ap pos (where-columns r active (λ _. true) (λ _. true) (λ _. refl) (λ _ _ _. refl) ∙ sum_by-filter (λ _. true) (share_of case r) (assigned case a))
+        ∙ ap pos (where-columns r active (λ _. true) (λ _. true) (λ _. refl) (λ _ _ _. refl) ∙ sum_by-filter (λ _. true) (share_of case r) (servers_with_places case a))
 
     pub loss-sum : (r : ℕ) → is_active setting r ≡ true → (board : ℕ)
         → term_sum (loss_line case (phase_classes case setting how) (columns_of case setting how) r board).terms (point_in case setting how number)
@@ -207,7 +207,7 @@ module _ (case : Case) (setting : Setting) (phase : IsPhase case setting) (a : A
         let outside : Class → Bool = λ class. not (class.board == board) in
         let apart : Place → Bool = λ s. not (s.board == board) in
         let factor : Mark → ℕ = units_at case (phase_classes case setting how) outside r in
-        let split = sum_by-filter_both (λ s. s.0.board == board) (λ s. not (s.0.board == board)) (λ _. refl) (share_of case r) (assigned case a) in
+        let split = sum_by-filter_both (λ s. s.0.board == board) (λ s. not (s.0.board == board)) (λ _. refl) (share_of case r) (servers_with_places case a) in
         let left : units_where apart case a r ≡ units case a r - units_on_board case a r board = omega (arith, split) in
         term_sum-line (columns_of case setting how) Loss (λ mark. pos (factor mark)) (pos (want_of case r).need) number
         ∙ column_sum-pos factor number (columns_of case setting how)

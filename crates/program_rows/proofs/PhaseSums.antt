@@ -12,9 +12,9 @@ use Rattle.std.proofs.lemmas.Bool.{eqb-true, eq-eqb}
 use Rattle.plan_model.specs.declared.cases.Place.{Place}
 use Rattle.plan_model.specs.declared.cases.Case.{Case}
 use Rattle.plan_model.specs.declared.cases.Assignment.{Assignment}
-use Rattle.plan_model.specs.Units.{assigned, no_place, server_with}
+use Rattle.plan_model.specs.Units.{servers_with_places, no_place, server_with}
 use Rattle.plan_model.specs.Allowed.{serves, fits}
-use Rattle.plan_model.specs.Rack.{may_move, keeps_to_chosen}
+use Rattle.plan_model.specs.Rack.{is_movable, keeps_to_chosen}
 use Rattle.plan_model.proofs.SumLemmas.{length-fits}
 use Rattle.plan_model.proofs.CaseFacts.{list_all-at}
 use Rattle.symmetry_classes.proofs.Partition.{sum_by-same, sum_by-zero}
@@ -199,35 +199,35 @@ pub record LawfulAt (case : Case) (setting : Setting) (s : (Place × Option ℕ)
 -- an assignment of a phase, apart from the needs
 pub record IsLawful (case : Case) (setting : Setting) (a : Assignment) : Type 0 where
   pub fit : IsTrue (fits case a)
-  pub serve : list_all (serves case) (assigned case a) ≡ true
-  pub keeps : list_all (keeps_to_chosen case setting.active) (zip (assigned case setting.start) a.of) ≡ true
+  pub serve : list_all (serves case) (servers_with_places case a) ≡ true
+  pub keeps : list_all (keeps_to_chosen case setting.active) (zip (servers_with_places case setting.start) a.of) ≡ true
 
 module _ (case : Case) (setting : Setting) (phase : IsPhase case setting) (a : Assignment) (size : length a.of ≡ length case.places) where
   abbrev pub trio : List ((Place × Option ℕ) × Option ℕ)
-  trio = zip (assigned case setting.start) a.of
+  trio = zip (servers_with_places case setting.start) a.of
 
   start-length : length case.places ≡ length setting.start.of
   start-length = sym (length-fits case setting.start phase.fit)
 
-  pub pair-length : length (assigned case setting.start) ≡ length a.of
+  pub pair-length : length (servers_with_places case setting.start) ≡ length a.of
   pair-length = let pairs = length-zip case.places setting.start.of in let same = size in omega (arith, pairs, start-length, same)
 
   pub movable-sum : (g : Place × Option ℕ → ℕ) → sum_by (λ t. g (server_with case a t)) (movable_servers case setting)
-      ≡ sum_by (λ s. cond (may_move case setting.active s.0) (g (s.0.0, s.1)) 0) trio
+      ≡ sum_by (λ s. cond (is_movable case setting.active s.0) (g (s.0.0, s.1)) 0) trio
   movable-sum g =
-      let h : Place × Option ℕ → Bool = may_move case setting.active in
-      let pairs = assigned case setting.start in
+      let h : Place × Option ℕ → Bool = is_movable case setting.active in
+      let pairs = servers_with_places case setting.start in
       sum_by-flagged (λ t. g (server_with case a t)) (movable_flags case setting)
       ∙ flags-of h (λ t. g (server_with case a t)) pairs 0
       ∙ sum_by-same (λ e. cond (h e.1) (g (server_with case a e.0)) 0) (λ e. cond (h e.1) (g ((get_or pairs e.0 (no_place, None)).0, get_or a.of e.0 None)) 0)
       (λ e. sym (ap (λ s. cond (h e.1) (g (s.0, get_or a.of e.0 None)) 0) (get_or-zip_all case.places setting.start.of e.0 no_place None start-length))) (enumerate_from 0 pairs)
       ∙ sum_by-enumerate_both (λ x y to. cond (h x) (g (y.0, to)) 0) (no_place, None) None pairs [] a.of [] pairs a.of 0 refl refl refl refl pair-length
 
-  pub assigned-sum : (f : Place × Option ℕ → ℕ) → sum_by f (assigned case a) ≡ sum_by (λ s. f (s.0.0, s.1)) trio
+  pub assigned-sum : (f : Place × Option ℕ → ℕ) → sum_by f (servers_with_places case a) ≡ sum_by (λ s. f (s.0.0, s.1)) trio
   assigned-sum f = sum_by-zip_third f case.places setting.start.of a.of start-length
 
-  pub start-sum : (f : Place × Option ℕ → ℕ) → sum_by f (assigned case setting.start) ≡ sum_by (λ s. f s.0) trio
-  start-sum f = sum_by-zip_first f (assigned case setting.start) a.of pair-length
+  pub start-sum : (f : Place × Option ℕ → ℕ) → sum_by f (servers_with_places case setting.start) ≡ sum_by (λ s. f s.0) trio
+  start-sum f = sum_by-zip_first f (servers_with_places case setting.start) a.of pair-length
 
   -- what holds of each server by its number
   pub All-trio : (P : (Place × Option ℕ) × Option ℕ → Type 0)
@@ -235,11 +235,11 @@ module _ (case : Case) (setting : Setting) (phase : IsPhase case setting) (a : A
   All-trio P h =
       All-from_get_or P trio ((no_place, None), None) (λ i inside.
       let same = size in
-      let there : i < length case.places = omega (arith, length-zip (assigned case setting.start) a.of, pair-length, same) in
-      let first : i < length (assigned case setting.start) = omega (arith, pair-length, same, there) in
+      let there : i < length case.places = omega (arith, length-zip (servers_with_places case setting.start) a.of, pair-length, same) in
+      let first : i < length (servers_with_places case setting.start) = omega (arith, pair-length, same, there) in
       let second : i < length a.of = omega (arith, same, there) in
       let read : get_or trio i ((no_place, None), None) ≡ ((get_or case.places i no_place, get_or setting.start.of i None), get_or a.of i None) =
-      get_or-zip (assigned case setting.start) a.of i ((no_place, None), None) first second
+      get_or-zip (servers_with_places case setting.start) a.of i ((no_place, None), None) first second
       ∙ ap (λ s. (s, get_or a.of i None)) (get_or-zip_all case.places setting.start.of i no_place None start-length) in
       subst P (sym read) (h i there))
 
@@ -247,12 +247,12 @@ module _ (case : Case) (setting : Setting) (phase : IsPhase case setting) (a : A
   lawful-at lawful = All-trio (LawfulAt case setting) (λ i within.
       let same = size in
       let second : i < length a.of = omega (arith, same, within) in
-      let first : i < length (assigned case setting.start) = omega (arith, pair-length, same, within) in
-      let inside : i < length trio = omega (arith, length-zip (assigned case setting.start) a.of, pair-length, same, within) in
-      let beside : i < length (assigned case a) = omega (arith, length-zip case.places a.of, same, within) in
-      let read = get_or-zip (assigned case setting.start) a.of i ((no_place, None), None) first second
+      let first : i < length (servers_with_places case setting.start) = omega (arith, pair-length, same, within) in
+      let inside : i < length trio = omega (arith, length-zip (servers_with_places case setting.start) a.of, pair-length, same, within) in
+      let beside : i < length (servers_with_places case a) = omega (arith, length-zip case.places a.of, same, within) in
+      let read = get_or-zip (servers_with_places case setting.start) a.of i ((no_place, None), None) first second
       ∙ ap (λ s. (s, get_or a.of i None)) (get_or-zip_all case.places setting.start.of i no_place None start-length) in
       record {
         keeps = subst (λ s. keeps_to_chosen case setting.active s ≡ true) read (list_all-at (keeps_to_chosen case setting.active) trio i ((no_place, None), None) inside lawful.keeps);
-        serve = subst (λ s. serves case s ≡ true) (get_or-zip case.places a.of i (no_place, None) within second) (list_all-at (serves case) (assigned case a) i (no_place, None) beside lawful.serve);
+        serve = subst (λ s. serves case s ≡ true) (get_or-zip case.places a.of i (no_place, None) within second) (list_all-at (serves case) (servers_with_places case a) i (no_place, None) beside lawful.serve);
       })

@@ -5,7 +5,7 @@ use Rattle.std.specs.List.{enumerate_from, range_with_len}
 use Rattle.std.proofs.lemmas.List.{append-nil, map-append, map_push, take_more, length-take-le}
 use Rattle.std.proofs.lemmas.List.Elements.{filter-append}
 use Rattle.std.proofs.lemmas.List.FromFn.{length-map-range_with_len, length-enumerate_from}
-use Rattle.symmetry_classes.specs.Groups.{flagged}
+use Rattle.symmetry_classes.specs.Groups.{flagged_servers}
 use Rattle.plan_model.proofs.NumberLemmas.{range_more}
 
 -- one more element, at the end of a list that is known
@@ -23,7 +23,7 @@ filter-one p x true e = ap (λ b. cond b (x ∷ []) []) e
 filter-one p x false e = ap (λ b. cond b (x ∷ []) []) e
 
 -- one more flag
-pub flagged_push : (bs : List Bool) (b : Bool) → flagged (bs ++ b ∷ []) ≡ flagged bs ++ cond b (length bs ∷ []) []
+pub flagged_push : (bs : List Bool) (b : Bool) → flagged_servers (bs ++ b ∷ []) ≡ flagged_servers bs ++ cond b (length bs ∷ []) []
 flagged_push bs b =
     let numbered = enumerate_from 0 bs in
     let names : List (ℕ × Bool) → List ℕ = map (λ e. e.0) in
@@ -34,38 +34,38 @@ flagged_push bs b =
     ap (λ es. names (filter flag es)) (enumerate_push 0 bs b)
     ∙ ap names (filter-append flag numbered ((0 + length bs, b) ∷ []))
     ∙ map-append (λ e. e.0) (filter flag numbered) (filter flag ((0 + length bs, b) ∷ []))
-    ∙ ap (λ k. flagged bs ++ names (cond b ((k, b) ∷ []) [])) count
-    ∙ ap (λ zs. flagged bs ++ zs) (step b)
+    ∙ ap (λ k. flagged_servers bs ++ names (cond b ((k, b) ∷ []) [])) count
+    ∙ ap (λ zs. flagged_servers bs ++ zs) (step b)
 
 -- the flagged numbers, where the flags are a test of the numbers
-pub flagged-range : (p : ℕ → Bool) (n : ℕ) → flagged (map p (range_with_len 0 n)) ≡ filter p (range_with_len 0 n)
+pub flagged-range : (p : ℕ → Bool) (n : ℕ) → flagged_servers (map p (range_with_len 0 n)) ≡ filter p (range_with_len 0 n)
 flagged-range p zero = refl
 flagged-range p (suc n) =
     let next : suc n ≡ n + 1 = omega arith in
     let numbers = range_with_len 0 n in
-    ap (λ k. flagged (map p (range_with_len 0 k))) next
-    ∙ ap (λ ns. flagged (map p ns)) (range_more n)
-    ∙ ap flagged (map_push p numbers n)
+    ap (λ k. flagged_servers (map p (range_with_len 0 k))) next
+    ∙ ap (λ ns. flagged_servers (map p ns)) (range_more n)
+    ∙ ap flagged_servers (map_push p numbers n)
     ∙ flagged_push (map p numbers) (p n)
-    ∙ ap (λ k. flagged (map p numbers) ++ cond (p n) (k ∷ []) []) (length-map-range_with_len p 0 n)
+    ∙ ap (λ k. flagged_servers (map p numbers) ++ cond (p n) (k ∷ []) []) (length-map-range_with_len p 0 n)
     ∙ ap (λ zs. zs ++ cond (p n) (n ∷ []) []) (flagged-range p n)
     ∙ ap (λ zs. filter p numbers ++ zs) (sym (filter-one p n (p n) refl))
     ∙ sym (filter-append p numbers (n ∷ []))
     ∙ ap (filter p) (sym (range_more n))
     ∙ ap (λ k. filter p (range_with_len 0 k)) (sym next)
 
-flagged-more : (bs : List Bool) (i : ℕ) → i < length bs → flagged (take (i + 1) bs) ≡ flagged (take i bs) ++ cond (get_or bs i false) (i ∷ []) []
+flagged-more : (bs : List Bool) (i : ℕ) → i < length bs → flagged_servers (take (i + 1) bs) ≡ flagged_servers (take i bs) ++ cond (get_or bs i false) (i ∷ []) []
 flagged-more bs i within =
     let some : i ≤ length bs = omega arith in
-    ap flagged (take_more bs i false within)
+    ap flagged_servers (take_more bs i false within)
     ∙ flagged_push (take i bs) (get_or bs i false)
-    ∙ ap (λ k. flagged (take i bs) ++ cond (get_or bs i false) (k ∷ []) []) (length-take-le i bs some)
+    ∙ ap (λ k. flagged_servers (take i bs) ++ cond (get_or bs i false) (k ∷ []) []) (length-take-le i bs some)
 
-pub flagged-more_set : (bs : List Bool) (i : ℕ) → i < length bs → get_or bs i false ≡ true → flagged (take (i + 1) bs) ≡ flagged (take i bs) ++ i ∷ []
-flagged-more_set bs i within e = flagged-more bs i within ∙ ap (λ b. flagged (take i bs) ++ cond b (i ∷ []) []) e
+pub flagged-more_set : (bs : List Bool) (i : ℕ) → i < length bs → get_or bs i false ≡ true → flagged_servers (take (i + 1) bs) ≡ flagged_servers (take i bs) ++ i ∷ []
+flagged-more_set bs i within e = flagged-more bs i within ∙ ap (λ b. flagged_servers (take i bs) ++ cond b (i ∷ []) []) e
 
-pub flagged-more_clear : (bs : List Bool) (i : ℕ) → i < length bs → get_or bs i false ≡ false → flagged (take (i + 1) bs) ≡ flagged (take i bs)
-flagged-more_clear bs i within e = flagged-more bs i within ∙ ap (λ b. flagged (take i bs) ++ cond b (i ∷ []) []) e ∙ append-nil (flagged (take i bs))
+pub flagged-more_clear : (bs : List Bool) (i : ℕ) → i < length bs → get_or bs i false ≡ false → flagged_servers (take (i + 1) bs) ≡ flagged_servers (take i bs)
+flagged-more_clear bs i within e = flagged-more bs i within ∙ ap (λ b. flagged_servers (take i bs) ++ cond b (i ∷ []) []) e ∙ append-nil (flagged_servers (take i bs))
 
 length-map_is : {X Y : Type 0} (f : X → Y) (xs : List X) → length (map f xs) ≡ length xs
 length-map_is f [] = refl
@@ -79,7 +79,7 @@ length-filter p (x ∷ xs) =
     λ b. elim b as (λ v. length (cond v (x ∷ filter p xs) (filter p xs)) ≤ suc (length xs)) [ true ↦ omega (arith, rest) | false ↦ omega (arith, rest) ] in
     step (p x)
 
-pub length-flagged : (bs : List Bool) → length (flagged bs) ≤ length bs
+pub length-flagged : (bs : List Bool) → length (flagged_servers bs) ≤ length bs
 length-flagged bs =
     let numbered = enumerate_from 0 bs in
     let flag : ℕ × Bool → Bool = λ e. e.1 in

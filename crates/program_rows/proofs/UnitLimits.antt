@@ -14,12 +14,12 @@ use Rattle.plan_model.specs.declared.cases.Case.{Case}
 use Rattle.plan_model.specs.declared.cases.Place.{Place}
 use Rattle.plan_model.specs.declared.cases.Assignment.{Assignment}
 use Rattle.plan_model.specs.declared.cases.Grouping.{Grouping}
-use Rattle.plan_model.specs.Units.{want_of, value_for, is_for, share_of, place_of, server_with, assigned}
-use Rattle.plan_model.specs.Rack.{may_move}
+use Rattle.plan_model.specs.Units.{want_of, value_for, is_for, share_of, place_of, server_with, servers_with_places}
+use Rattle.plan_model.specs.Rack.{is_movable}
 use Rattle.plan_model.proofs.CaseFacts.{list_all-at, want-in_range}
 use Rattle.plan_model.proofs.SumLemmas.{length-fits}
 use Rattle.symmetry_classes.specs.declared.groups.Class.{Class}
-use Rattle.symmetry_classes.specs.Groups.{same_class, class_of, first_of_each, flagged}
+use Rattle.symmetry_classes.specs.Groups.{same_class, class_of, first_of_each, flagged_servers}
 use Rattle.ip_model.specs.declared.parts.Mark.{Mark}
 use Rattle.ip_model.specs.declared.parts.Mark.TheVariants.{Count}
 use Rattle.program_rows.specs.Members.{gets, members_with}
@@ -56,7 +56,7 @@ value-by case r kind within false e =
 pub value-most : (case : Case) (r kind : ℕ) → r < length case.wants → value_for case r kind ≤ 1000
 value-most case r kind within = value-by case r kind within (nat_lt kind (length (want_of case r).values)) refl
 
-pub flagged-within : (flags : List Bool) → All (λ t. t < length flags) (flagged flags)
+pub flagged-within : (flags : List Bool) → All (λ t. t < length flags) (flagged_servers flags)
 flagged-within flags =
     All-map_to (λ t. t < length flags) (λ (e : ℕ × Bool). e.0) (filter (λ e. e.1) (enumerate_from 0 flags))
     (All-filter_to (λ (e : ℕ × Bool). e.0 < length flags) (λ e. e.1) (enumerate_from 0 flags)
@@ -107,7 +107,7 @@ module _ (case : Case) (setting : Setting) (phase : IsStart case setting) (how :
   servers-filled : All (λ s. gets filled (Some r) s ≡ true) servers
   servers-filled k d inside =
       let s = get_or servers k d in
-      let flags = length_map (may_move case setting.active) (assigned case setting.start) in
+      let flags = length_map (is_movable case setting.active) (servers_with_places case setting.start) in
       let start = length-fits case setting.start phase.fit in
       let below = flagged-within (movable_flags case setting) k d inside in
       let within : s < length case.places = omega (arith, below, flags, length-zip case.places setting.start.of, start) in

@@ -4,10 +4,10 @@ use Rattle.std.specs.List.{list_any}
 use Rattle.plan_model.specs.declared.cases.Case.{Case}
 use Rattle.plan_model.specs.declared.cases.Assignment.{Assignment}
 use Rattle.plan_model.specs.declared.cases.Grouping.{Grouping}
-use Rattle.plan_model.specs.Units.{assigned, all_reservations, free_plan}
+use Rattle.plan_model.specs.Units.{servers_with_places, all_reservations, free_plan}
 use Rattle.plan_model.specs.Allowed.{fits}
-use Rattle.plan_model.specs.Rack.{may_move}
-use Rattle.symmetry_classes.specs.Groups.{flagged, classes_of}
+use Rattle.plan_model.specs.Rack.{is_movable}
+use Rattle.symmetry_classes.specs.Groups.{flagged_servers, classes_of}
 use Rattle.symmetry_classes.specs.declared.groups.Class.{Class}
 use Rattle.program_rows.specs.declared.phases.Phase.{Phase}
 use Rattle.program_rows.specs.declared.phases.Phase.TheVariants.{Region, Rack}
@@ -33,10 +33,10 @@ setting_of case (Rack from chosen) = rack_setting case from.now chosen.now
 
 -- which servers may be moved, and the numbers of these
 abbrev pub movable_flags : Case → Setting → List Bool
-movable_flags case setting = map (may_move case setting.active) (assigned case setting.start)
+movable_flags case setting = map (is_movable case setting.active) (servers_with_places case setting.start)
 
 abbrev pub movable_servers : Case → Setting → List ℕ
-movable_servers case setting = flagged (movable_flags case setting)
+movable_servers case setting = flagged_servers (movable_flags case setting)
 
 abbrev pub phase_classes : Case → Setting → Grouping → List Class
 phase_classes case setting how = classes_of how setting.racks case (movable_servers case setting)

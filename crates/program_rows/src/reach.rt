@@ -2,7 +2,7 @@
 ghost use Rattle.std.specs.Prelude.{◌≡◌, ◌<◌, ◌≤◌, ◌^◌, IfOk, IsTrue, All, length, map, sum_by, filter};
 ghost use Rattle.std.specs.List.{range_with_len};
 ghost use Rattle.plan_model.specs.Units.{place_of, value_for};
-ghost use Rattle.symmetry_classes.specs.Groups.{flagged};
+ghost use Rattle.symmetry_classes.specs.Groups.{flagged_servers};
 ghost use Rattle.program_rows.specs.Reach.{number_at as number_of, numbers_at as numbers_of, reaches_at, reach_among as reach_of, reach_of as reach_in, ReachFits};
 ghost use Rattle.program_rows.specs.Settings.{setting_of, start_fits};
 
@@ -53,7 +53,7 @@ fn numbers_at(level: Level, case: &Case) -> u32
 /// The numbers that are flagged, by rising number.
 pub(crate) fn flagged_numbers(alloc: Global, flags: &[bool]) -> Result<List<u32>, AllocError>
     requires { length flags.now < 2 ^ 32 }
-    ensures { IfOk result (λ numbers. numbers ≡ flagged flags.now) }
+    ensures { IfOk result (λ numbers. numbers ≡ flagged_servers flags.now) }
 {
     let mut numbers = Vec::new(alloc);
     for (number, flag) in flags.iter().enumerate() {

@@ -1,7 +1,7 @@
 //! Which servers a phase may move.
 ghost use Rattle.std.specs.Prelude.{◌≡◌, ◌<◌, ◌≤◌, ◌&&◌, All, IsTrue, IfOk, length, nat_lt, slice_index_or, None};
 ghost use Rattle.plan_model.specs.Units.{server_with, value_for};
-ghost use Rattle.plan_model.specs.Rack.{may_move, none_or_in, some_value as some_value_of};
+ghost use Rattle.plan_model.specs.Rack.{is_movable, none_or_in, some_value as some_value_of};
 ghost use Rattle.program_rows.specs.Settings.{setting_of, start_fits, movable_flags, racks_count, makes_active as makes_active_of, start_place as start_place_of};
 
 use crate::phases::Phase;
@@ -79,7 +79,7 @@ fn some_value(case: &Case, phase: &Phase<'_>, kind: u32) -> bool
 pub fn movable(case: &Case, phase: &Phase<'_>, server: u32) -> bool
     requires start { IsTrue (start_fits case.now phase.now) }
     requires in_range { server < length case.now.places }
-    ensures { result ≡ may_move case.now (setting_of case.now phase.now).active (server_with case.now (setting_of case.now phase.now).start server) }
+    ensures { result ≡ is_movable case.now (setting_of case.now phase.now).active (server_with case.now (setting_of case.now phase.now).start server) }
 {
     let place = &case.places.as_slice()[server as usize];
     place.up && starts_active(case, phase, server) && some_value(case, phase, place.kind)

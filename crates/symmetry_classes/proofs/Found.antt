@@ -11,7 +11,7 @@ use Rattle.plan_model.specs.declared.cases.Grouping.{Grouping}
 use Rattle.plan_model.specs.declared.cases.Case.{Case}
 use Rattle.plan_model.specs.Units.{place_of}
 use Rattle.symmetry_classes.specs.declared.groups.Class.{Class as Group}
-use Rattle.symmetry_classes.specs.Groups.{first_of_each, same_class, class_of, classes_of, flagged}
+use Rattle.symmetry_classes.specs.Groups.{first_of_each, same_class, class_of, classes_of, flagged_servers}
 use Rattle.symmetry_classes.specs.Keys.{key_of, keys_of, IsFound}
 use Rattle.symmetry_classes.specs.declared.keys.Key.{Key}
 use Rattle.symmetry_classes.specs.contracts.keys.KeyPartialEq.TheImpl.{ghosts as keys}
@@ -31,17 +31,17 @@ flag-more : (b : Bool) (n : ℕ) → map (λ (e : ℕ × Bool). e.0) (cond b ((n
 flag-more true n = refl
 flag-more false n = refl
 
-pub flagged_more : (flags : List Bool) (i : ℕ) → i < length flags → flagged (take (i + 1) flags) ≡ flagged (take i flags) ++ cond (get_or flags i false) (i ∷ []) []
+pub flagged_more : (flags : List Bool) (i : ℕ) → i < length flags → flagged_servers (take (i + 1) flags) ≡ flagged_servers (take i flags) ++ cond (get_or flags i false) (i ∷ []) []
 flagged_more flags i within =
     let here : 0 + length (take i flags) ≡ i = omega (arith, length-take i flags) in
-    ap flagged (take_more flags i false within)
+    ap flagged_servers (take_more flags i false within)
     ∙ ap (λ es. map (λ (e : ℕ × Bool). e.0) (filter (λ e. e.1) es)) (enumerate-push 0 (take i flags) (get_or flags i false))
     ∙ ap (map (λ (e : ℕ × Bool). e.0)) (filter-append (λ e. e.1) (enumerate_from 0 (take i flags)) ((0 + length (take i flags), get_or flags i false) ∷ []))
     ∙ map-append (λ (e : ℕ × Bool). e.0) (filter (λ e. e.1) (enumerate_from 0 (take i flags))) (cond (get_or flags i false) ((0 + length (take i flags), get_or flags i false) ∷ []) [])
-    ∙ ap (λ xs. flagged (take i flags) ++ xs) (flag-more (get_or flags i false) (0 + length (take i flags)))
-    ∙ ap (λ n. flagged (take i flags) ++ cond (get_or flags i false) (n ∷ []) []) here
+    ∙ ap (λ xs. flagged_servers (take i flags) ++ xs) (flag-more (get_or flags i false) (0 + length (take i flags)))
+    ∙ ap (λ n. flagged_servers (take i flags) ++ cond (get_or flags i false) (n ∷ []) []) here
 
-pub length-flagged : (flags : List Bool) → length (flagged flags) ≤ length flags
+pub length-flagged : (flags : List Bool) → length (flagged_servers flags) ≤ length flags
 length-flagged flags =
     omega (arith, length-map (filter (λ (e : ℕ × Bool). e.1) (enumerate_from 0 flags)) (λ (e : ℕ × Bool). e.0), length-filter (λ e. e.1) (enumerate_from 0 flags), count_by-le-length (λ e. e.1) (enumerate_from 0 flags), length-enumerate_from 0 flags)
 

@@ -18,18 +18,18 @@ same_holder Gone Gone = true
 same_holder _ _ = false
 
 -- whether two servers agree in type, switchboard, holder and busy flag, and, where racks count, in the rack
-abbrev pub alike : Bool → Place → Place → Bool
-alike racks s t =
+abbrev pub have_one_class : Bool → Place → Place → Bool
+have_one_class racks s t =
     s.kind == t.kind && s.board == t.board && same_holder s.holder t.holder && beq s.busy t.busy && (not racks || s.rack == t.rack)
 
 -- whether the servers of two numbers are in one class
 abbrev pub same_class : Grouping → Bool → Case → ℕ → ℕ → Bool
 same_class Single racks case s t = s == t
-same_class Class racks case s t = alike racks (place_of case s) (place_of case t)
+same_class Class racks case s t = have_one_class racks (place_of case s) (place_of case t)
 
 -- the numbers of the servers whose flag is set
-abbrev pub flagged : List Bool → List ℕ
-flagged flags = map (λ e. e.0) (filter (λ e. e.1) (enumerate_from 0 flags))
+abbrev pub flagged_servers : List Bool → List ℕ
+flagged_servers flags = map (λ e. e.0) (filter (λ e. e.1) (enumerate_from 0 flags))
 
 -- the elements that are the same as none before them
 abbrev pub first_of_each : {X : Type 0} → (X → X → Bool) → List X → List X

@@ -1,6 +1,6 @@
 ghost use Rattle.std.specs.Prelude.{◌≡◌, ◌<◌, ◌++◌, ◌∷◌, ◌^◌, ◌-◌, [], ℕ, IfOk, OnOk, IfSome, Some, None, if◌then◌else◌, length, take, ◌+◌, slice_get, slice_set, vec_len};
 ghost use Rattle.std.specs.Option.{ForSome};
-ghost use Rattle.symmetry_classes.specs.Groups.{classes_of, flagged};
+ghost use Rattle.symmetry_classes.specs.Groups.{classes_of, flagged_servers};
 ghost use Rattle.symmetry_classes.specs.Keys.{IsFound};
 
 use crate::groups::{Class, Classes};
@@ -68,8 +68,8 @@ fn put(
 ) -> Result<(), AllocError>
     requires flags { length movable.now ≡ length case.now.places }
     requires within { server < length case.now.places }
-    requires found { IsFound how racks case.now (flagged (take server movable.now)) found.old.keys.keys found.old.classes.items }
-    ensures { OnOk result (IsFound how racks case.now (flagged (take (server + 1) movable.now)) found.new.keys.keys found.new.classes.items) }
+    requires found { IsFound how racks case.now (flagged_servers (take server movable.now)) found.old.keys.keys found.old.classes.items }
+    ensures { OnOk result (IsFound how racks case.now (flagged_servers (take (server + 1) movable.now)) found.new.keys.keys found.new.classes.items) }
 {
     if !movable[server as usize] {
         return Ok(());
@@ -96,7 +96,7 @@ pub fn group(
     how: Grouping,
 ) -> Result<Classes, AllocError>
     requires { length movable.now ≡ length case.now.places }
-    ensures { IfOk result (λ classes. classes.list ≡ classes_of how racks case.now (flagged movable.now)) }
+    ensures { IfOk result (λ classes. classes.list ≡ classes_of how racks case.now (flagged_servers movable.now)) }
 {
     let mut found = Found {
         keys: IndexSet::new(alloc),

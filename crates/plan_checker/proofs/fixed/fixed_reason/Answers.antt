@@ -1,7 +1,7 @@
 use Rattle.std.proofs.Common.{◌≡◌, ◌<◌, ap, arith, length, true, false, get_or, ◌∙◌, below_more, sym, None, Some, min, zip, Bool, ℕ, Option}
 use Rattle.std.specs.Prelude.{not, option_map, slice_index_or}
 use Rattle.plan_model.specs.Rack.{keeps_to_chosen}
-use Rattle.plan_model.specs.Units.{assigned, no_place, server_with}
+use Rattle.plan_model.specs.Units.{servers_with_places, no_place, server_with}
 use Rattle.plan_model.proofs.NumberLemmas.{position_at, position_none}
 use Rattle.plan_checker.specs.declared.verdict.Reason.{Reason}
 use Rattle.plan_checker.specs.declared.verdict.Reason.TheVariants as reason
@@ -18,7 +18,7 @@ returns-then-not-is_kept c =
     let at = kept-at case region a s c.requires.region c.requires.a within in
     let fails : not (keeps_to_chosen case c.args.chosen.now (server_with case region s, slice_index_or a.of s None)) ≡ true = cc in
     ap (λ (o : Option ℕ). option_map (λ (s : ℕ). reason.Fixed s) o)
-    (sym (position_at (λ s. not (keeps_to_chosen case c.args.chosen.now s)) (zip (assigned case region) a.of) s ((no_place, None), None)
+    (sym (position_at (λ s. not (keeps_to_chosen case c.args.chosen.now s)) (zip (servers_with_places case region) a.of) s ((no_place, None), None)
     (omega (arith, kept-length case region a c.requires.region c.requires.a, within)) c.loop-server.invariant (ap (λ s. not (keeps_to_chosen case c.args.chosen.now s)) at ∙ fails)))
 
 pub loop-server-preserved : goal.loop-server-preserved
@@ -37,5 +37,5 @@ returns c =
     let region = c.args.region.now in
     let a = c.args.a.now in
     ap (λ (o : Option ℕ). option_map (λ (s : ℕ). reason.Fixed s) o)
-    (sym (position_none (λ s. not (keeps_to_chosen case c.args.chosen.now s)) (zip (assigned case region) a.of) ((no_place, None), None)
+    (sym (position_none (λ s. not (keeps_to_chosen case c.args.chosen.now s)) (zip (servers_with_places case region) a.of) ((no_place, None), None)
     (λ k within. c.loop-server.invariant k (omega (arith, kept-length case region a c.requires.region c.requires.a)))))

@@ -2,7 +2,7 @@ use Rattle.std.proofs.Common.{◌≡◌, ◌<◌, ◌+◌, ◌==◌, ap, arith, 
 use Rattle.plan_model.proofs.SumLemmas.{sum_by-zip_more, length-fits, take-zip_all, few-places, sum_by-filter}
 use Rattle.plan_model.proofs.PartSums.{take_from_reads, cond-le}
 use Rattle.plan_model.specs.Levels.{number_at, units_at}
-use Rattle.plan_model.specs.Units.{no_place, share_of, assigned}
+use Rattle.plan_model.specs.Units.{no_place, share_of, servers_with_places}
 use Rattle.plan_model.proofs.tables.units_by_number.Goals as goal
 
 pub add_at-requires : goal.add_at-requires
@@ -27,5 +27,5 @@ returns c = λ n few.
     take_from_reads (units_at c.args.level c.args.case.now c.args.a.now c.args.r) c.loop-i.table c.args.first n (omega arith)
     (λ k small.
     let was = c.loop-i.invariant.0 k (omega arith) in
-    let picked = sum_by-filter (λ s. number_at c.args.level s.0 == c.args.first + k) (share_of c.args.case.now c.args.r) (assigned c.args.case.now c.args.a.now) in
+    let picked = sum_by-filter (λ s. number_at c.args.level s.0 == c.args.first + k) (share_of c.args.case.now c.args.r) (servers_with_places c.args.case.now c.args.a.now) in
     cc)

@@ -1,6 +1,6 @@
 use Rattle.std.proofs.Common.{◌≡◌, take}
-use Rattle.symmetry_classes.specs.Groups.{flagged}
+use Rattle.symmetry_classes.specs.Groups.{flagged_servers}
 use Rattle.program_rows.proofs.reach.flagged_numbers.Given as goal
 
 abbrev pub invariant-loop-number : goal.invariant-loop-number
-invariant-loop-number l = l.numbers.items ≡ flagged (take l.number l.flags)
+invariant-loop-number l = l.numbers.items ≡ flagged_servers (take l.number l.flags)

@@ -8,7 +8,7 @@ use Rattle.plan_model.specs.Units.{place_of, no_place}
 use Rattle.plan_model.proofs.SumLemmas.{few-places}
 use Rattle.symmetry_classes.specs.contracts.keys.KeyPartialEq.TheImpl.{ghosts as keys}
 use Rattle.symmetry_classes.specs.declared.groups.Class.{Class as Group}
-use Rattle.symmetry_classes.specs.Groups.{flagged, classes_of}
+use Rattle.symmetry_classes.specs.Groups.{flagged_servers, classes_of}
 use Rattle.symmetry_classes.specs.Keys.{IsFound, key_of, keys_of}
 use Rattle.symmetry_classes.proofs.Found.{flagged_more, begun, joined, joined-write, joined_by, alone, members-few, length-flagged}
 use Rattle.symmetry_classes.proofs.grouping.put.Goals as goal
@@ -24,15 +24,15 @@ is-new new false e f = refl
 pub returns-then-not-movable-server : goal.returns-then-not-movable-server
 returns-then-not-movable-server c =
     let unset : get_or c.args.movable.now c.args.server false ≡ false = c.if-not-movable-server.true in
-    let same : flagged (take (c.args.server + 1) c.args.movable.now) ≡ flagged (take c.args.server c.args.movable.now) =
+    let same : flagged_servers (take (c.args.server + 1) c.args.movable.now) ≡ flagged_servers (take c.args.server c.args.movable.now) =
     flagged_more c.args.movable.now c.args.server (omega arith)
-    ∙ ap (λ b. flagged (take c.args.server c.args.movable.now) ++ cond b (c.args.server ∷ []) []) unset
-    ∙ append-nil (flagged (take c.args.server c.args.movable.now)) in
+    ∙ ap (λ b. flagged_servers (take c.args.server c.args.movable.now) ++ cond b (c.args.server ∷ []) []) unset
+    ∙ append-nil (flagged_servers (take c.args.server c.args.movable.now)) in
     rw same c.requires.found
 
 pub add_member-requires-clause-short : goal.add_member-requires-clause-short
 add_member-requires-clause-short c =
-    let done = flagged (take c.args.server c.args.movable.now) in
+    let done = flagged_servers (take c.args.server c.args.movable.now) in
     let key : c.key_of.result ≡ key_of c.args.how c.args.racks c.args.server (place_of c.args.case.now c.args.server) =
     c.key_of.ensures ∙ ap (λ ps. key_of c.args.how c.args.racks c.args.server (get_or ps c.args.server no_place)) c.as_slice.ensures.items in
     let old : list_any (keys.eq c.key_of.result) c.args.found.now.keys.keys ≡ true = is-old c.in_ok-at.is_new _ c.in_ok-at.ensures.added c.if-is_new.false in
@@ -46,14 +46,14 @@ add_member-requires-clause-short c =
 
 pub returns-in_ok-push : goal.returns-in_ok-push
 returns-in_ok-push c =
-    let done = flagged (take c.args.server c.args.movable.now) in
+    let done = flagged_servers (take c.args.server c.args.movable.now) in
     let set-flag : get_or c.args.movable.now c.args.server false ≡ true = c.if-not-movable-server.false in
     let key : c.key_of.result ≡ key_of c.args.how c.args.racks c.args.server (place_of c.args.case.now c.args.server) =
     c.key_of.ensures ∙ ap (λ ps. key_of c.args.how c.args.racks c.args.server (get_or ps c.args.server no_place)) c.as_slice.ensures.items in
     let new : list_any (keys.eq c.key_of.result) c.args.found.now.keys.keys ≡ false = is-new c.in_ok-at.is_new _ c.in_ok-at.ensures.added c.if-is_new.true in
-    let more : flagged (take (c.args.server + 1) c.args.movable.now) ≡ flagged (take c.args.server c.args.movable.now) ++ c.args.server ∷ [] =
+    let more : flagged_servers (take (c.args.server + 1) c.args.movable.now) ≡ flagged_servers (take c.args.server c.args.movable.now) ++ c.args.server ∷ [] =
     flagged_more c.args.movable.now c.args.server (omega arith)
-    ∙ ap (λ b. flagged (take c.args.server c.args.movable.now) ++ cond b (c.args.server ∷ []) []) set-flag in
+    ∙ ap (λ b. flagged_servers (take c.args.server c.args.movable.now) ++ cond b (c.args.server ∷ []) []) set-flag in
     let found = begun c.args.how c.args.racks c.args.case.now done c.args.server c.key_of.result c.args.found.now.keys.keys c.args.found.now.classes.items key c.requires.found new in
     let one : List Place → Group = λ places. record {
       kind = (get_or places c.args.server no_place).kind;
@@ -74,18 +74,18 @@ returns-in_ok-push c =
 
 pub returns-else-is_new : goal.returns-else-is_new
 returns-else-is_new c =
-    let done = flagged (take c.args.server c.args.movable.now) in
+    let done = flagged_servers (take c.args.server c.args.movable.now) in
     let set-flag : get_or c.args.movable.now c.args.server false ≡ true = c.if-not-movable-server.false in
     let key : c.key_of.result ≡ key_of c.args.how c.args.racks c.args.server (place_of c.args.case.now c.args.server) =
     c.key_of.ensures ∙ ap (λ ps. key_of c.args.how c.args.racks c.args.server (get_or ps c.args.server no_place)) c.as_slice.ensures.items in
     let old : list_any (keys.eq c.key_of.result) c.args.found.now.keys.keys ≡ true = is-old c.in_ok-at.is_new _ c.in_ok-at.ensures.added c.if-is_new.false in
     let found = joined c.args.how c.args.racks c.args.case.now done c.args.server c.key_of.result c.args.found.now.keys.keys c.args.found.now.classes.items key c.requires.found old in
     let within : c.in_ok-at.at < length c.args.found.now.classes.items = omega (arith, c.in_ok-at.ensures.index, found.0) in
-    let more : flagged (take (c.args.server + 1) c.args.movable.now) ≡ flagged (take c.args.server c.args.movable.now) ++ c.args.server ∷ [] =
+    let more : flagged_servers (take (c.args.server + 1) c.args.movable.now) ≡ flagged_servers (take c.args.server c.args.movable.now) ++ c.args.server ∷ [] =
     flagged_more c.args.movable.now c.args.server (omega arith)
-    ∙ ap (λ b. flagged (take c.args.server c.args.movable.now) ++ cond b (c.args.server ∷ []) []) set-flag in
+    ∙ ap (λ b. flagged_servers (take c.args.server c.args.movable.now) ++ cond b (c.args.server ∷ []) []) set-flag in
     joined-write c.args.how c.args.racks c.args.case.now done c.args.server c.add_member.result c.args.found.now.classes.items c.add_member.new.classes.items c.in_ok-at.at
-    (IsFound c.args.how c.args.racks c.args.case.now (flagged (take (c.args.server + 1) c.args.movable.now)) c.insert_full.new.self.keys c.add_member.new.classes.items)
+    (IsFound c.args.how c.args.racks c.args.case.now (flagged_servers (take (c.args.server + 1) c.args.movable.now)) c.insert_full.new.self.keys c.add_member.new.classes.items)
     within
     (λ e. record {
       keys_found = c.in_ok-at.ensures.keys ∙ found.1.keys_found ∙ sym (ap (keys_of c.args.how c.args.racks c.args.case.now) more);
