@@ -1,19 +1,19 @@
 -- The start tableau stands for the program and is lexicographically positive, and written pivots keep both.
-use Rattle.std.proofs.Common.{◌≡◌, ℕ, zero, suc, ◌+◌, ◌-◌, ◌*◌, ◌<◌, ◌≤◌, ℤ, pos, negsuc, ◌+ℤ◌, ◌-ℤ◌, ◌*ℤ◌, ◌≤ℤ◌, ◌<ℤ◌, unsigned_abs, refl, sym, ap, subst, ◌∙◌, arith, if◌then◌else◌, ◌==◌, inl, inr, ◌⊎◌}
+use Rattle.std.proofs.Common.{◌≡◌, ℕ, zero, suc, ◌+◌, ◌-◌, ◌<◌, ◌≤◌, ℤ, pos, ◌+ℤ◌, ◌*ℤ◌, ◌<ℤ◌, refl, sym, ap, subst, ◌∙◌, arith, if◌then◌else◌, ◌==◌, inl, inr, ◌⊎◌}
 use Rattle.std.proofs.lemmas.Int.{ints}
 use Rattle.std.proofs.lemmas.Bool.{ne_eqb}
 use Rattle.std.proofs.lemmas.Bool.Decides.{eqb_tells}
 use Rattle.ip_model.specs.Sums.{sum_below}
-use Rattle.exact_simplex.specs.Tableaus.{Form, value_at, Scaled, StandsFor, IsPositive, IsFirstAbove, IsPivotPlace, IsRaised, pivot_of}
-use Rattle.exact_simplex.specs.Forms.{Parts, Place, costs, step, surplus, room, place_of, form_at, forms_of}
+use Rattle.exact_simplex.specs.Tableaus.{Form, value_at, Scaled, StandsFor, IsPositive, IsFirstAbove, pivot_of}
+use Rattle.exact_simplex.specs.Forms.{Parts, place_of, forms_of}
 use Rattle.exact_simplex.specs.Start.{start_of, Reaches, none, more}
 use Rattle.exact_simplex.proofs.Ring.{mul_comm, none_times}
-use Rattle.exact_simplex.proofs.SumBelow.{sum_below-add, sum_below-scale, sum_below-same}
+use Rattle.exact_simplex.proofs.SumBelow.{sum_below-same}
 use Rattle.exact_simplex.proofs.Places.{pick, none_picked, IsProper}
 use Rattle.exact_simplex.proofs.Least.{step_place, surplus_place, room_place}
 use Rattle.exact_simplex.proofs.Order.{order}
 use Rattle.exact_simplex.proofs.Keeps.{keeps_stands_for, keeps_positive}
-use Rattle.exact_simplex.proofs.Ends.{UnitsProper, unit_places}
+use Rattle.exact_simplex.proofs.Ends.{UnitsProper}
 
 -- the value of a step
 step_value : (p : Parts) (j : ℕ) (e : ℤ) (steps : ℕ → ℤ) → j < p.columns → value_at p.columns (forms_of p (suc j)) e steps ≡ steps j

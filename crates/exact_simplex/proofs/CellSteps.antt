@@ -1,15 +1,14 @@
 -- The cells of a pivot: from the contracts of the operations, and to the tableau over one denominator.
-use Rattle.std.proofs.Common.{◌≡◌, ℕ, zero, suc, ◌+◌, ◌<◌, ◌≤◌, ℤ, pos, negsuc, ◌+ℤ◌, ◌-ℤ◌, ◌*ℤ◌, ◌≤ℤ◌, ◌<ℤ◌, unsigned_abs, refl, sym, ap, subst, ◌∙◌, arith, Bool, true, false, ◌==◌, if◌then◌else◌, List, length, Option, Some, None, IfSome, ◌⊎◌, inl, inr}
+use Rattle.std.proofs.Common.{◌≡◌, ℕ, zero, suc, ◌≤◌, ℤ, pos, ◌-ℤ◌, ◌*ℤ◌, ◌<ℤ◌, refl, sym, ap, subst, ◌∙◌, arith, Bool, true, false, ◌==◌, if◌then◌else◌, Option, Some, None, IfSome, inl, inr}
 use Rattle.std.proofs.lemmas.Int.{ints}
-use Rattle.std.proofs.lemmas.Bool.{ne_eqb}
 use Rattle.std.proofs.lemmas.Bool.Decides.{eqb_tells}
 use Rattle.exact_fraction.specs.declared.fraction.Fraction.{Fraction}
 use Rattle.exact_fraction.specs.Sizes.{IsLowest}
 use Rattle.exact_fraction.specs.Exact.{IsRatio}
 use Rattle.exact_simplex.specs.Tableaus.{Scaled, pivot_of}
-use Rattle.exact_simplex.specs.Cells.{cell_of, row_of, number_at, ShowsRow, Shows}
-use Rattle.exact_simplex.specs.Pivots.{IsQuotient, IsProduct, QuotientFits, CellFits, RowFits, PivotFits}
-use Rattle.exact_simplex.specs.Changes.{ShareFor, AreShares, SharesFit, IsTaken, CellFor, CellForFits, IsRowAfter, RowAfterFits, IsUnitRow, ChangeFor}
+use Rattle.exact_simplex.specs.Cells.{number_at}
+use Rattle.exact_simplex.specs.Pivots.{IsQuotient, IsProduct}
+use Rattle.exact_simplex.specs.Changes.{ShareFor, IsTaken, CellFor}
 use Rattle.exact_simplex.proofs.Ring.{mul_assoc, mul_comm, none_times, both_ways, less_none, none_less, turn_middle}
 use Rattle.exact_simplex.proofs.Order.{above_product}
 use Rattle.exact_simplex.proofs.Choice.{factor_none}

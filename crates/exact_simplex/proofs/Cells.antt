@@ -1,10 +1,10 @@
 -- The cells of a tableau of fractions, from the contracts of the operations: num / den is the number top / bottom where num * bottom ≡ top * den.
-use Rattle.std.proofs.Common.{◌≡◌, ℕ, zero, suc, ◌<◌, ◌≤◌, ℤ, pos, negsuc, ◌+ℤ◌, ◌-ℤ◌, ◌*ℤ◌, ◌≤ℤ◌, ◌<ℤ◌, refl, sym, ap, subst, ◌∙◌, arith}
+use Rattle.std.proofs.Common.{◌≡◌, ℤ, pos, ◌-ℤ◌, ◌*ℤ◌, ◌<ℤ◌, sym, ap, ◌∙◌, arith}
 use Rattle.std.proofs.lemmas.Int.{ints}
-use Rattle.exact_simplex.proofs.Ring.{mul_assoc, mul_comm, sub-mul, turn_middle, pair_up, pair_out, sub_cells, cell_left, cell_right}
+use Rattle.exact_simplex.proofs.Ring.{sub-mul, turn_middle, pair_up, pair_out, sub_cells, cell_left, cell_right}
 use Rattle.exact_simplex.proofs.Choice.{factor_none}
 
-cancelled : (z w c : ℤ) → pos 0 <ℤ c → z *ℤ c ≡ w *ℤ c → z ≡ w
+pub cancelled : (z w c : ℤ) → pos 0 <ℤ c → z *ℤ c ≡ w *ℤ c → z ≡ w
 cancelled z w c p h =
     let gone = factor_none (z -ℤ w) c p (sub-mul z w c ∙ omega (arith, ints)) in
     omega (arith, ints)

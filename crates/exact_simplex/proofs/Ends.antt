@@ -1,16 +1,16 @@
 -- What a tableau that is over shows.
-use Rattle.std.proofs.Common.{◌≡◌, ℕ, zero, suc, ◌+◌, ◌*◌, ◌<◌, ◌≤◌, ℤ, pos, negsuc, ◌+ℤ◌, ◌-ℤ◌, ◌*ℤ◌, ◌≤ℤ◌, ◌<ℤ◌, refl, sym, ap, subst, ◌∙◌, arith, if◌then◌else◌, ◌==◌, inl, inr, ◌⊎◌}
+use Rattle.std.proofs.Common.{◌≡◌, ℕ, zero, suc, ◌<◌, ◌≤◌, ℤ, pos, ◌+ℤ◌, ◌-ℤ◌, ◌*ℤ◌, ◌≤ℤ◌, ◌<ℤ◌, ap, ◌∙◌, arith, if◌then◌else◌, ◌==◌, inl, inr}
 use Rattle.std.proofs.lemmas.Int.{ints}
 use Rattle.std.proofs.lemmas.Bool.Decides.{eqb_tells}
 use Rattle.ip_model.specs.Sums.{sum_below}
-use Rattle.exact_simplex.specs.Tableaus.{Form, value_at, Scaled, StandsFor, IsPositive}
+use Rattle.exact_simplex.specs.Tableaus.{Scaled, StandsFor, IsPositive}
 use Rattle.exact_simplex.specs.Forms.{Parts, Place, costs, step, surplus, room, place_of, form_at, forms_of}
-use Rattle.exact_simplex.proofs.Ring.{mul_comm, none_times, neg-mul}
+use Rattle.exact_simplex.proofs.Ring.{none_times, neg-mul}
 use Rattle.exact_simplex.proofs.Order.{at_or_before}
-use Rattle.exact_simplex.proofs.SumBelow.{sum_below-add, sum_below-scale, sum_below-le, sum_below-same}
+use Rattle.exact_simplex.proofs.SumBelow.{sum_below-same}
 use Rattle.exact_simplex.proofs.Pivot.{sum_below-sub}
-use Rattle.exact_simplex.proofs.Weights.{no_sum, taken_off, shown_by, Gives, shows_at_least}
-use Rattle.exact_simplex.proofs.Places.{IsProper, surplus_share, step_share, room_share, total_share, term_slope, term_constant, sum_slopes, sum_constants, slopes_of_row, constants_of_row, taken_off-add, constants_of-add, constants_of}
+use Rattle.exact_simplex.proofs.Weights.{no_sum, shown_by, Gives, shows_at_least}
+use Rattle.exact_simplex.proofs.Places.{IsProper, surplus_share, step_share, room_share, total_share, term_slope, term_constant, sum_slopes, sum_constants, slopes_of_row, constants_of_row, taken_off-add, constants_of-add}
 
 share_choice : (i k : ℕ) (z : ℤ) → pos 0 ≤ℤ z → pos 0 ≤ℤ (if i == k then z else pos 0)
 share_choice i k z h =

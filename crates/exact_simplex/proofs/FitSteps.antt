@@ -1,9 +1,9 @@
 -- Where a part of a pivot does not fit, the pivot does not.
-use Rattle.std.proofs.Common.{◌≡◌, ◌≢◌, ℕ, zero, suc, ◌+◌, ◌<◌, ◌≤◌, pos, refl, sym, subst, ◌∙◌, arith, Bool, true, false, ◌==◌, List, length, Option, Some, None, Result, Ok, Err, IfOk, IfNone, ap, ◌⊎◌, inl, inr}
+use Rattle.std.proofs.Common.{◌≡◌, ◌≢◌, ℕ, ◌<◌, refl, sym, subst, ◌∙◌, arith, Bool, true, false, ◌==◌, List, length, Option, Some, None, Result, Ok, Err, IfOk, IfNone, ap, inl, inr}
 use Rattle.std.proofs.lemmas.Bool.Decides.{eqb_tells}
 use Rattle.exact_fraction.specs.declared.fraction.Fraction.{Fraction}
 use Rattle.exact_simplex.specs.Cells.{cell_of, row_of}
-use Rattle.exact_simplex.specs.Pivots.{IsQuotient, QuotientFits, CellFits, RowFits, PivotFits}
+use Rattle.exact_simplex.specs.Pivots.{RowFits, PivotFits}
 use Rattle.exact_simplex.specs.Changes.{ShareFor, AreShares, SharesFit, CellForFits, RowAfterFits, ChangeFits, ChangesFit}
 
 pub other_number : (c k : ℕ) → (c == k) ≡ false → c ≢ k

@@ -1,16 +1,16 @@
 -- The unit that a choice holds.
-use Rattle.std.proofs.Common.{◌≡◌, ℕ, zero, suc, ◌+◌, ◌<◌, ◌≤◌, ℤ, pos, negsuc, ◌+ℤ◌, ◌-ℤ◌, ◌*ℤ◌, ◌<ℤ◌, ◌≤ℤ◌, refl, sym, ap, subst, ◌∙◌, arith, Bool, true, false, Option, Some, None, List, length, ◌⊎◌, inl, inr, if◌then◌else◌, ◌==◌}
+use Rattle.std.proofs.Common.{◌≡◌, ℕ, suc, ◌<◌, ◌≤◌, ℤ, pos, ◌*ℤ◌, ◌<ℤ◌, ◌≤ℤ◌, refl, sym, ap, subst, ◌∙◌, arith, Bool, true, false, Option, Some, None, List, length, inl, inr}
 use Rattle.std.proofs.lemmas.Int.{ints}
 use Rattle.std.proofs.lemmas.Bool.{ne_eqb}
 use Rattle.std.proofs.lemmas.Bool.Decides.{eqb_tells}
 use Rattle.exact_fraction.specs.declared.fraction.Fraction.{Fraction}
 use Rattle.exact_fraction.specs.Exact.{IsRatio}
-use Rattle.exact_simplex.specs.Tableaus.{Scaled, IsFirstAbove, IsPivotPlace}
-use Rattle.exact_simplex.specs.Cells.{cell_of, row_of, number_at, ShowsRow}
-use Rattle.exact_simplex.specs.Choices.{SameQuotients, IsBefore, CompareFits, ComparisonGives, ShowsPair, IsCandidate, FirstCandidate, IsHeld, ChoiceFits, IsSetting, NextGives, ChoiceGives}
-use Rattle.exact_simplex.proofs.Ring.{none_times, mul_comm}
+use Rattle.exact_simplex.specs.Tableaus.{Scaled, IsPivotPlace}
+use Rattle.exact_simplex.specs.Cells.{cell_of, row_of}
+use Rattle.exact_simplex.specs.Choices.{SameQuotients, IsBefore, ComparisonGives, ShowsPair, IsCandidate, FirstCandidate, IsHeld, IsSetting, NextGives}
+use Rattle.exact_simplex.proofs.Ring.{none_times}
 use Rattle.exact_simplex.proofs.Order.{above_product}
-use Rattle.exact_simplex.proofs.Choice.{before_chain, factor_none, factor_above}
+use Rattle.exact_simplex.proofs.Choice.{before_chain, factor_above}
 use Rattle.exact_simplex.proofs.CellSteps.{den_above, own_column}
 
 -- a fraction above 0 shows a number above 0, and the other way round

@@ -1,14 +1,13 @@
 -- A pivot keeps what the tableau stands for and that it is lexicographically positive, and raises the column of values.
-use Rattle.std.proofs.Common.{◌≡◌, ℕ, zero, suc, ◌+◌, ◌*◌, ◌<◌, ◌≤◌, ℤ, pos, negsuc, ◌+ℤ◌, ◌-ℤ◌, ◌*ℤ◌, ◌≤ℤ◌, ◌<ℤ◌, unsigned_abs, refl, sym, ap, subst, ◌∙◌, arith, if◌then◌else◌, ◌==◌, inl, inr, ◌⊎◌}
+use Rattle.std.proofs.Common.{◌≡◌, ℕ, zero, suc, ◌*◌, ◌<◌, ◌≤◌, ℤ, pos, negsuc, ◌+ℤ◌, ◌-ℤ◌, ◌*ℤ◌, ◌<ℤ◌, unsigned_abs, refl, sym, ap, subst, ◌∙◌, arith, if◌then◌else◌, ◌==◌, inl, inr, ◌⊎◌}
 use Rattle.std.proofs.lemmas.Int.{ints}
 use Rattle.std.proofs.lemmas.Bool.{ne_eqb}
 use Rattle.std.proofs.lemmas.Bool.Decides.{eqb_tells}
-use Rattle.ip_model.specs.Sums.{sum_below}
 use Rattle.exact_simplex.specs.Tableaus.{Form, value_at, Scaled, StandsFor, IsPositive, IsFirstAbove, IsPivotPlace, IsRaised, pivot_of}
 use Rattle.exact_simplex.proofs.Ring.{mul_comm, both_ways, less_none, none_less, none_times, turned, raise}
 use Rattle.exact_simplex.proofs.Order.{above_product, first_above-same, first_above-scale, first_above-add}
 use Rattle.exact_simplex.proofs.SumBelow.{sum_below-same}
-use Rattle.exact_simplex.proofs.Pivot.{above_size, scale_is, keeps_scale, keeps_by_units, value_at-mix, value_at-scale}
+use Rattle.exact_simplex.proofs.Pivot.{scale_is, keeps_scale, keeps_by_units, value_at-mix, value_at-scale}
 
 abbrev pub cell_after : ℤ → ℤ → ℕ → (ℕ → ℤ) → (ℕ → ℤ) → ℕ → ℤ
 cell_after d p k f g l = if l == k then f k *ℤ d else f l *ℤ p -ℤ f k *ℤ g l

@@ -1,20 +1,18 @@
 -- The point of a least tableau.
-use Rattle.std.proofs.Common.{◌≡◌, ℕ, zero, suc, ◌+◌, ◌-◌, ◌*◌, ◌<◌, ◌≤◌, ℤ, pos, negsuc, ◌+ℤ◌, ◌-ℤ◌, ◌*ℤ◌, ◌≤ℤ◌, ◌<ℤ◌, unsigned_abs, refl, sym, ap, subst, ◌∙◌, arith, if◌then◌else◌, ◌==◌, true, false, nat_lt, inl, inr, ◌⊎◌, List, [], ◌∷◌, length, All, slice_index}
+use Rattle.std.proofs.Common.{◌≡◌, ℕ, zero, suc, ◌+◌, ◌-◌, ◌*◌, ◌<◌, ◌≤◌, ℤ, pos, negsuc, ◌+ℤ◌, ◌-ℤ◌, ◌*ℤ◌, ◌≤ℤ◌, unsigned_abs, refl, ap, subst, ◌∙◌, arith, if◌then◌else◌, ◌==◌, true, false, nat_lt, List, [], ◌∷◌, length, All, slice_index}
 use Rattle.std.proofs.lemmas.Int.{ints}
 use Rattle.ip_model.specs.declared.parts.Line.{Line}
 use Rattle.ip_model.specs.declared.parts.Bounds.{Bounds}
 use Rattle.ip_model.specs.declared.program.Program.{Program}
-use Rattle.ip_model.specs.Limits.{cost_of}
-use Rattle.ip_model.specs.Sums.{sum_below, total_below, terms_at, factor_of}
-use Rattle.ip_model.specs.Points.{MeetsLine, IsPointIn, LiesIn, value_over}
+use Rattle.ip_model.specs.Sums.{sum_below, total_below, terms_at}
+use Rattle.ip_model.specs.Points.{MeetsLine, IsPointIn, value_over}
 use Rattle.bound_certificate.specs.Bound.{terms_of, least_of}
 use Rattle.bound_certificate.proofs.Duality.{by_columns}
 use Rattle.bound_certificate.proofs.LeafBound.{columns_in}
-use Rattle.exact_simplex.specs.Tableaus.{Form, value_at, Scaled, StandsFor, IsPositive}
-use Rattle.exact_simplex.specs.Forms.{Parts, Place, costs, step, surplus, room, place_of, form_at, forms_of, parts_of}
-use Rattle.exact_simplex.proofs.Ring.{mul_comm, none_times, mul-add, low_and_step, sub-mul, room_ring}
+use Rattle.exact_simplex.specs.Tableaus.{value_at, Scaled, StandsFor}
+use Rattle.exact_simplex.specs.Forms.{step, surplus, room, place_of, form_at, forms_of, parts_of}
+use Rattle.exact_simplex.proofs.Ring.{mul_comm, low_and_step, sub-mul, room_ring}
 use Rattle.exact_simplex.proofs.Integers.{add-mul}
-use Rattle.exact_simplex.proofs.SumBelow.{sum_below-add, sum_below-scale, sum_below-le, sum_below-same}
 use Rattle.exact_simplex.proofs.Places.{pick}
 use Rattle.ip_model.proofs.RuleFacts.{program_limits}
 

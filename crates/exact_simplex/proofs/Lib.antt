@@ -25,4 +25,12 @@ pub mod HeldSteps
 pub mod ReachSteps
 pub mod ListedSteps
 pub mod AnswerSteps
+pub mod Divides
+pub mod CommonSteps
+pub mod MultiplierSteps
+pub mod PointSteps
+pub mod Shares
+pub mod Certain
+pub mod CertificateSteps
+pub mod WeightSteps
 pub mod Raises

@@ -1,5 +1,5 @@
 -- What certificate multipliers show, from what the weights of the rows show.
-use Rattle.std.proofs.Common.{◌≡◌, ℕ, zero, suc, ◌+◌, ◌*◌, ◌<◌, ◌≤◌, ℤ, pos, negsuc, ◌+ℤ◌, ◌-ℤ◌, ◌*ℤ◌, ◌≤ℤ◌, ◌<ℤ◌, refl, sym, ap, subst, ◌∙◌, arith, if◌then◌else◌, ◌==◌, inl, inr, ◌⊎◌, List, [], ◌∷◌, length, All, slice_index}
+use Rattle.std.proofs.Common.{◌≡◌, ℕ, suc, ◌+◌, ◌*◌, ◌<◌, ℤ, pos, ◌+ℤ◌, ◌-ℤ◌, ◌*ℤ◌, ◌≤ℤ◌, refl, sym, ap, ◌∙◌, arith, if◌then◌else◌, ◌==◌, inl, inr, ◌⊎◌, List, [], ◌∷◌, length, All}
 use Rattle.std.proofs.lemmas.Int.{ints, clamps}
 use Rattle.std.proofs.lemmas.Bool.Decides.{eqb_tells}
 use Rattle.std.specs.Int.{int_min}
@@ -10,11 +10,11 @@ use Rattle.ip_model.specs.Limits.{cost_of}
 use Rattle.ip_model.specs.Sums.{sum_below, factor_of}
 use Rattle.bound_certificate.specs.declared.multipliers.Top.{Top}
 use Rattle.bound_certificate.specs.Bound.{terms_of, least_of, combined_factor, combined_least, reduced_cost, box_sum, weighted_total}
-use Rattle.exact_simplex.specs.Forms.{Parts, parts_of}
+use Rattle.exact_simplex.specs.Forms.{parts_of}
 use Rattle.exact_simplex.specs.Duals.{num_at, AreWeights}
-use Rattle.exact_simplex.proofs.Ring.{mul_comm, mul_assoc, mul_left_comm, none_times, mul-add, move_scale, scaled_less, scaled_back}
+use Rattle.exact_simplex.proofs.Ring.{mul_assoc, mul-add, move_scale, scaled_less, scaled_back}
 use Rattle.exact_simplex.proofs.Integers.{mul-le}
-use Rattle.exact_simplex.proofs.SumBelow.{sum_below-add, sum_below-scale, sum_below-le, sum_below-same}
+use Rattle.exact_simplex.proofs.SumBelow.{sum_below-scale, sum_below-same}
 use Rattle.exact_simplex.proofs.Weights.{taken_off, shown_by}
 use Rattle.exact_simplex.proofs.Places.{pick, none_picked, sum_of_products}
 

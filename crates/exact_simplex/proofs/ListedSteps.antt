@@ -1,8 +1,8 @@
 -- Multipliers that a loop lists.
-use Rattle.std.proofs.Common.{◌≡◌, ℕ, zero, suc, ◌+◌, ◌<◌, ◌≤◌, ◌^◌, refl, sym, ap, subst, ◌∙◌, arith, List, [], ◌∷◌, ◌++◌, length, get_or, length-append, All, AllPairs, ◌⊎◌, inl, inr}
+use Rattle.std.proofs.Common.{◌≡◌, ℕ, ◌+◌, ◌<◌, ◌≤◌, ◌^◌, sym, subst, arith, List, [], ◌∷◌, ◌++◌, length, get_or, length-append, All, AllPairs, ◌⊎◌, inl, inr}
 use Rattle.std.proofs.lemmas.List.{get_or_append_left, get_or_push}
 use Rattle.bound_certificate.specs.declared.multipliers.Top.{Top}
-use Rattle.bound_certificate.specs.Rising.{KeepsRange, TopInRange}
+use Rattle.bound_certificate.specs.Rising.{TopInRange}
 use Rattle.exact_simplex.specs.Duals.{IsListed}
 
 either : (k n : ℕ) → k < n + 1 → (k < n) ⊎ (k ≡ n)

@@ -1,5 +1,5 @@
 -- Sums at the low numbers, in numbers of 64 bits, and slopes.
-use Rattle.std.proofs.Common.{◌≡◌, ℕ, zero, suc, ◌+◌, ◌*◌, ◌<◌, ◌≤◌, ◌^◌, refl, sym, ap, subst, ◌∙◌, arith, ℤ, pos, negsuc, ◌+ℤ◌, ◌-ℤ◌, ◌*ℤ◌, unsigned_abs, FitsSigned, to_z, of_z, to_z-of_z, List, length, get_or, set, ◌⊎◌, inl, inr, if◌then◌else◌, ◌==◌, get_or-set_other, get_or-set_same}
+use Rattle.std.proofs.Common.{◌≡◌, ℕ, ◌+◌, ◌<◌, ◌≤◌, ◌^◌, sym, ap, subst, arith, ℤ, pos, ◌+ℤ◌, unsigned_abs, to_z, of_z, to_z-of_z, List, length, get_or, set, inl, inr, if◌then◌else◌, ◌==◌, get_or-set_other, get_or-set_same}
 use Rattle.std.proofs.lemmas.Int.{ints, fits_signed_from_abs}
 use Rattle.std.proofs.lemmas.Bool.Decides.{eqb_tells}
 use Rattle.std.specs.Int.{w64}

@@ -1,5 +1,5 @@
 -- Columns whose first cell that is not 0 is above 0.
-use Rattle.std.proofs.Common.{◌≡◌, ℕ, zero, suc, ◌+◌, ◌*◌, ◌<◌, ◌≤◌, ℤ, pos, negsuc, ◌+ℤ◌, ◌-ℤ◌, ◌*ℤ◌, ◌≤ℤ◌, ◌<ℤ◌, refl, sym, ap, subst, ◌∙◌, arith, inl, inr, ◌⊎◌, mul-le-mul}
+use Rattle.std.proofs.Common.{◌≡◌, ℕ, ◌*◌, ◌<◌, ◌≤◌, ℤ, pos, negsuc, ◌+ℤ◌, ◌*ℤ◌, ◌≤ℤ◌, ◌<ℤ◌, sym, subst, ◌∙◌, arith, inl, inr, ◌⊎◌, mul-le-mul}
 use Rattle.std.proofs.lemmas.Int.{ints}
 use Rattle.exact_simplex.specs.Tableaus.{IsFirstAbove}
 use Rattle.exact_simplex.proofs.Ring.{none_times}

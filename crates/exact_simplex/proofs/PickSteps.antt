@@ -1,17 +1,15 @@
 -- Comparisons of two columns' quotients.
-use Rattle.std.proofs.Common.{◌≡◌, ℕ, zero, suc, ◌+◌, ◌<◌, ◌≤◌, ℤ, pos, negsuc, ◌+ℤ◌, ◌-ℤ◌, ◌*ℤ◌, ◌<ℤ◌, refl, sym, ap, subst, ◌∙◌, arith, Bool, true, false, Option, Some, None, List, length, Ordering, Less, Equal, Greater, ◌⊎◌, inl, inr}
+use Rattle.std.proofs.Common.{◌≡◌, ℕ, ◌<◌, ℤ, pos, ◌-ℤ◌, ◌*ℤ◌, ◌<ℤ◌, refl, sym, ap, ◌∙◌, arith, true, false, Some, None, List, length, Ordering, Less, Equal, Greater, inl}
 use Rattle.std.proofs.lemmas.Int.{ints}
 use Rattle.std.specs.Ordering.{int_cmp, MatchOrdering}
 use Rattle.std.proofs.lemmas.Cmp.{int_ranked}
 use Rattle.exact_fraction.specs.declared.fraction.Fraction.{Fraction}
-use Rattle.exact_fraction.specs.Exact.{IsRatio}
-use Rattle.exact_simplex.specs.Tableaus.{Scaled, IsFirstAbove}
-use Rattle.exact_simplex.specs.Cells.{cell_of, row_of, number_at, ShowsRow}
+use Rattle.exact_simplex.specs.Tableaus.{Scaled}
+use Rattle.exact_simplex.specs.Cells.{cell_of, row_of, number_at}
 use Rattle.exact_simplex.specs.Pivots.{IsQuotient, QuotientFits}
-use Rattle.exact_simplex.specs.Choices.{IsOrderOf, SameQuotients, IsBefore, CompareFits, ComparisonGives, ShowsPair}
-use Rattle.exact_simplex.proofs.Ring.{mul_assoc, mul_comm, none_times, sub-mul, turn_middle, pair_up}
+use Rattle.exact_simplex.specs.Choices.{IsOrderOf, SameQuotients, ComparisonGives, ShowsPair}
+use Rattle.exact_simplex.proofs.Ring.{mul_comm, none_times, sub-mul, pair_up}
 use Rattle.exact_simplex.proofs.Order.{above_product}
-use Rattle.exact_simplex.proofs.Choice.{factor_none}
 use Rattle.exact_simplex.proofs.CellSteps.{den_above, quotient_over}
 use Rattle.exact_simplex.proofs.RowSteps.{number_none}
 

@@ -1,7 +1,7 @@
 -- Written pivots raise the column of values.
-use Rattle.std.proofs.Common.{◌≡◌, ℕ, zero, suc, ◌<◌, ◌≤◌, ℤ, pos, ◌+ℤ◌, ◌-ℤ◌, ◌*ℤ◌, ◌<ℤ◌, refl, sym, ap, subst, ◌∙◌, arith}
+use Rattle.std.proofs.Common.{◌≡◌, ℕ, zero, suc, ◌≤◌, pos, ◌-ℤ◌, ◌*ℤ◌, ◌<ℤ◌, arith}
 use Rattle.std.proofs.lemmas.Int.{ints}
-use Rattle.exact_simplex.specs.Tableaus.{Scaled, IsFirstAbove, IsPivotPlace, IsRaised, pivot_of}
+use Rattle.exact_simplex.specs.Tableaus.{Scaled, IsPivotPlace, IsRaised, pivot_of}
 use Rattle.exact_simplex.specs.Forms.{Parts}
 use Rattle.exact_simplex.specs.Start.{start_of, Reaches, none, more}
 use Rattle.exact_simplex.specs.Laws.{PivotsRaise}

@@ -1,24 +1,23 @@
 -- A written pivot keeps what is reached.
-use Rattle.std.proofs.Common.{◌≡◌, ℕ, zero, suc, ◌+◌, ◌<◌, ◌≤◌, ℤ, pos, negsuc, ◌+ℤ◌, ◌-ℤ◌, ◌*ℤ◌, ◌<ℤ◌, ◌≤ℤ◌, refl, sym, ap, subst, ◌∙◌, arith, Bool, true, false, Option, Some, None, List, length, slice_index, ◌⊎◌, inl, inr, if◌then◌else◌, ◌==◌}
+use Rattle.std.proofs.Common.{◌≡◌, ℕ, suc, ◌+◌, ◌<◌, ◌≤◌, ℤ, pos, negsuc, ◌-ℤ◌, ◌*ℤ◌, ◌<ℤ◌, ◌≤ℤ◌, sym, ap, subst, ◌∙◌, arith, length, ◌⊎◌, inl, inr, if◌then◌else◌, ◌==◌}
 use Rattle.std.proofs.lemmas.Int.{ints}
 use Rattle.std.proofs.lemmas.Bool.Decides.{eqb_tells}
 use Rattle.exact_fraction.specs.declared.fraction.Fraction.{Fraction}
 use Rattle.exact_fraction.specs.Exact.{IsRatio}
 use Rattle.exact_simplex.specs.declared.table.Tableau.{Tableau}
-use Rattle.exact_simplex.specs.Tableaus.{Scaled, StandsFor, IsPositive, IsPivotPlace, pivot_of}
+use Rattle.exact_simplex.specs.Tableaus.{Scaled, IsPivotPlace, pivot_of}
 use Rattle.exact_simplex.specs.Forms.{Parts, forms_of}
-use Rattle.exact_simplex.specs.Start.{start_of, Reaches, none, more}
-use Rattle.exact_simplex.specs.Cells.{cell_of, row_of, number_at, ShowsRow, Shows}
-use Rattle.exact_simplex.specs.Choices.{IsCandidate, IsHeld, IsSetting}
-use Rattle.exact_simplex.specs.Shapes.{HasShape}
+use Rattle.exact_simplex.specs.Start.{start_of, none, more}
+use Rattle.exact_simplex.specs.Cells.{cell_of, row_of, Shows}
+use Rattle.exact_simplex.specs.Choices.{IsHeld, IsSetting}
 use Rattle.exact_simplex.specs.Relaxing.{IsReached, IsFirstBelow, IsBelowNone}
-use Rattle.exact_simplex.proofs.Ring.{none_times, sub-mul, neg-mul}
+use Rattle.exact_simplex.proofs.Ring.{neg-mul}
 use Rattle.exact_simplex.proofs.Order.{above_product}
 use Rattle.exact_simplex.proofs.Choice.{factor_above}
 use Rattle.exact_simplex.proofs.CellSteps.{den_above}
 use Rattle.exact_simplex.proofs.Keeps.{keeps_stands_for, keeps_positive}
 use Rattle.exact_simplex.proofs.Begin.{start_stands_for, start_positive}
-use Rattle.exact_simplex.proofs.HeldSteps.{pivot_place, candidate_above}
+use Rattle.exact_simplex.proofs.HeldSteps.{pivot_place}
 
 pub setting_of : (p : Parts) (made : ℕ) (at : Tableau) (t : Scaled) → IsReached p made at t → IsSetting p.columns at.cells t
 setting_of p made at t h = record {

@@ -1,11 +1,10 @@
 -- The rows of a tableau after a pivot, over one denominator.
-use Rattle.std.proofs.Common.{◌≡◌, ℕ, zero, suc, ◌+◌, ◌<◌, ◌≤◌, ℤ, pos, ◌+ℤ◌, ◌-ℤ◌, ◌*ℤ◌, ◌<ℤ◌, refl, sym, ap, subst, ◌∙◌, arith, Bool, true, false, ◌==◌, List, length, Option, Some, None, unwrap_or, ◌⊎◌, inl, inr}
-use Rattle.std.proofs.lemmas.Int.{ints}
+use Rattle.std.proofs.Common.{◌≡◌, ℕ, suc, ◌<◌, ℤ, pos, ◌*ℤ◌, refl, sym, ap, subst, ◌∙◌, arith, Bool, true, false, ◌==◌, List, length, Option, Some, None, unwrap_or, inl, inr}
 use Rattle.std.proofs.lemmas.Bool.Decides.{eqb_tells}
 use Rattle.exact_fraction.specs.declared.fraction.Fraction.{Fraction}
 use Rattle.exact_fraction.specs.Exact.{IsRatio}
 use Rattle.exact_simplex.specs.Tableaus.{Scaled, pivot_of}
-use Rattle.exact_simplex.specs.Cells.{cell_of, row_of, number_at, ShowsRow, Shows}
+use Rattle.exact_simplex.specs.Cells.{cell_of, number_at, ShowsRow}
 use Rattle.exact_simplex.specs.Changes.{AreShares, IsRowAfter, IsUnitRow, ChangeFor}
 use Rattle.exact_simplex.proofs.Ring.{none_times}
 use Rattle.exact_simplex.proofs.Choice.{factor_none}

@@ -1,12 +1,11 @@
 -- The rows of the start tableau show the forms of their places.
-use Rattle.std.proofs.Common.{◌≡◌, ℕ, zero, suc, ◌+◌, ◌*◌, ◌<◌, ◌≤◌, refl, sym, ap, subst, ◌∙◌, arith, ℤ, pos, ◌+ℤ◌, ◌-ℤ◌, ◌*ℤ◌, List, length, slice_index, Result, Ok, Err, IfOk, All}
-use Rattle.std.proofs.lemmas.Int.{ints}
+use Rattle.std.proofs.Common.{◌≡◌, ℕ, zero, suc, ◌+◌, ◌<◌, ◌≤◌, sym, ap, subst, ◌∙◌, arith, ℤ, pos, ◌-ℤ◌, ◌*ℤ◌, List, length, slice_index, Result, Ok, Err, IfOk, All}
 use Rattle.exact_fraction.specs.declared.fraction.Fraction.{Fraction}
 use Rattle.exact_fraction.specs.Exact.{IsRatio}
-use Rattle.exact_simplex.specs.Tableaus.{Form, Scaled}
-use Rattle.exact_simplex.specs.Forms.{Parts, parts_of, costs, step, surplus, room, place_of, form_at, forms_of}
+use Rattle.exact_simplex.specs.Tableaus.{Form}
+use Rattle.exact_simplex.specs.Forms.{Parts, parts_of, step, surplus, room, form_at, forms_of}
 use Rattle.exact_simplex.specs.Start.{start_of}
-use Rattle.exact_simplex.specs.Cells.{cell_of, row_of, number_at, ShowsRow, Shows}
+use Rattle.exact_simplex.specs.Cells.{cell_of, row_of, number_at, Shows}
 use Rattle.exact_simplex.specs.Beginning.{IsWhole, IsWholeRow, ShowsForm, AreSlopes}
 use Rattle.exact_simplex.proofs.Least.{step_place, surplus_place, room_place}
 use Rattle.ip_model.specs.declared.parts.Term.{Term}
@@ -14,7 +13,7 @@ use Rattle.ip_model.specs.declared.parts.Line.{Line}
 use Rattle.ip_model.specs.declared.parts.Bounds.{Bounds}
 use Rattle.ip_model.specs.declared.program.Program.{Program}
 use Rattle.ip_model.specs.Sums.{sum_below, factor_of, terms_at}
-use Rattle.bound_certificate.specs.Bound.{terms_of, least_of}
+use Rattle.bound_certificate.specs.Bound.{terms_of}
 use Rattle.bound_certificate.proofs.Duality.{by_columns}
 use Rattle.bound_certificate.proofs.Combined.{LineAt}
 

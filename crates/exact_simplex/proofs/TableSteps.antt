@@ -1,10 +1,10 @@
 -- A whole tableau after a pivot, over one denominator.
-use Rattle.std.proofs.Common.{◌≡◌, ℕ, zero, suc, ◌+◌, ◌<◌, ◌≤◌, ℤ, pos, ◌<ℤ◌, refl, sym, ap, subst, ◌∙◌, arith, Bool, true, false, ◌==◌, if◌then◌else◌, List, length, Option, Some, None, unwrap_or, slice_index, slice_set, ◌⊎◌, inl, inr, get_or-set_other, get_or-set_same, length-set}
+use Rattle.std.proofs.Common.{◌≡◌, ℕ, suc, ◌<◌, ◌≤◌, pos, ◌<ℤ◌, refl, sym, ap, subst, ◌∙◌, arith, Bool, true, false, ◌==◌, if◌then◌else◌, List, length, Option, Some, None, unwrap_or, slice_index, slice_set, inl, inr, get_or-set_other, get_or-set_same, length-set}
 use Rattle.std.proofs.lemmas.Bool.Decides.{eqb_tells}
 use Rattle.exact_fraction.specs.declared.fraction.Fraction.{Fraction}
 use Rattle.exact_simplex.specs.Tableaus.{Scaled, pivot_of}
-use Rattle.exact_simplex.specs.Cells.{cell_of, row_of, number_at, ShowsRow, Shows}
-use Rattle.exact_simplex.specs.Changes.{AreShares, AreChanges, ArePivotChanges, ChangeFor, IsUnitRow, IsRowAfter, change_at}
+use Rattle.exact_simplex.specs.Cells.{cell_of, row_of, ShowsRow, Shows}
+use Rattle.exact_simplex.specs.Changes.{ArePivotChanges, ChangeFor, change_at}
 use Rattle.exact_simplex.specs.Shapes.{HasShape}
 use Rattle.exact_simplex.proofs.CellSteps.{Pivoting, pivoting}
 use Rattle.exact_simplex.proofs.RowSteps.{row_shown}

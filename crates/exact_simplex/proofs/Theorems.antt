@@ -1,16 +1,16 @@
 -- What a tableau that is over certifies.
-use Rattle.std.proofs.Common.{◌≡◌, ℕ, zero, suc, ◌+◌, ◌*◌, ◌<◌, ◌≤◌, ℤ, pos, negsuc, ◌+ℤ◌, ◌-ℤ◌, ◌*ℤ◌, ◌≤ℤ◌, ◌<ℤ◌, refl, sym, ap, subst, ◌∙◌, arith, List, length, slice_index}
+use Rattle.std.proofs.Common.{◌≡◌, ℕ, zero, suc, ◌*◌, ◌<◌, ℤ, pos, negsuc, ◌+ℤ◌, ◌*ℤ◌, ◌≤ℤ◌, ◌<ℤ◌, refl, sym, ap, subst, ◌∙◌, arith, length}
 use Rattle.std.proofs.lemmas.Int.{ints}
 use Rattle.ip_model.specs.declared.parts.Bounds.{Bounds}
 use Rattle.ip_model.specs.declared.program.Program.{Program}
-use Rattle.ip_model.specs.Points.{IsBoxOf, IsPointIn, value_over}
+use Rattle.ip_model.specs.Points.{IsBoxOf, value_over}
 use Rattle.bound_certificate.specs.declared.multipliers.Multipliers.{Multipliers}
-use Rattle.bound_certificate.specs.Bound.{weighted_total, unrounded_numerator, refutation, Refutes}
+use Rattle.bound_certificate.specs.Bound.{unrounded_numerator, refutation, Refutes}
 use Rattle.bound_certificate.proofs.LeafBound.{weighted_under}
 use Rattle.exact_simplex.specs.Tableaus.{Scaled, StandsFor, IsPositive}
-use Rattle.exact_simplex.specs.Forms.{Parts, place_of, forms_of, parts_of}
+use Rattle.exact_simplex.specs.Forms.{place_of, forms_of, parts_of}
 use Rattle.exact_simplex.specs.Duals.{AreWeights}
-use Rattle.exact_simplex.proofs.Ring.{mul_comm, none_times, mul-add}
+use Rattle.exact_simplex.proofs.Ring.{mul_comm, none_times}
 use Rattle.exact_simplex.proofs.Integers.{mul-le}
 use Rattle.exact_simplex.proofs.Weights.{shown_by}
 use Rattle.exact_simplex.proofs.Places.{IsProper, surplus_share}

@@ -1,11 +1,11 @@
 -- What a relaxation answers.
-use Rattle.std.specs.Prelude.{ℕ, ◌≡◌, ◌<◌, ◌≤◌, List, length, Option, Some, None, All, ◌⊎◌}
+use Rattle.std.specs.Prelude.{ℕ, ◌≡◌, ◌*◌, ◌≤◌, pos, ◌*ℤ◌, length, Option, Some, None, ◌⊎◌}
 use Rattle.ip_model.specs.declared.parts.Bounds.{Bounds}
 use Rattle.ip_model.specs.declared.point.Point.{Point}
 use Rattle.ip_model.specs.declared.program.Program.{Program}
-use Rattle.ip_model.specs.Points.{IsPointOf, value_up_of}
+use Rattle.ip_model.specs.Points.{IsPointOf, numerator, value_over, value_up_of}
 use Rattle.bound_certificate.specs.declared.multipliers.Multipliers.{Multipliers}
-use Rattle.bound_certificate.specs.Bound.{Refutes, RowsInRange, leaf_bound}
+use Rattle.bound_certificate.specs.Bound.{Refutes, RowsInRange, leaf_bound, unrounded_numerator}
 use Rattle.exact_simplex.specs.declared.table.Tableau.{Tableau}
 use Rattle.exact_simplex.specs.declared.relaxed.Relaxed.{Relaxed}
 use Rattle.exact_simplex.specs.declared.relaxed.Relaxed.TheVariants.{Least, Empty, Wide, Misfit, Spent}
@@ -14,11 +14,20 @@ use Rattle.exact_simplex.specs.Forms.{Parts, parts_of}
 use Rattle.exact_simplex.specs.Choices.{FirstCandidate, ChoiceFits}
 use Rattle.exact_simplex.specs.Pivots.{PivotFits}
 use Rattle.exact_simplex.specs.Relaxing.{IsReached, IsLeastTable, IsFirstBelow}
+use Rattle.exact_simplex.specs.Certificates.{IsExactPoint, AreExactDuals, AreExactRefutation, CertificateFits, RefutationFits}
 
--- the point lies in the relaxation of the box, and the multipliers' bound there is its value, rounded up
+-- the point lies in the relaxation of the box, and the multipliers' bound there is its value, before rounding and after
 pub record Certifies (program : Program) (box : Bounds) (point : Point) (duals : Multipliers) : Type 0 where
   pub lies : IsPointOf program box point
   pub bound_is : leaf_bound program box duals ≡ value_up_of program point
+  -- both over the product of the denominators
+  pub unrounded_is : pos point.den *ℤ unrounded_numerator program box duals ≡ pos (duals.den * value_over program point.den (numerator point))
+
+-- the tableau is one after some written pivots
+pub record IsReachedAt (p : Parts) (at : Tableau) : Type 0 where
+  pub made : ℕ
+  pub scaled : Scaled
+  pub reached : IsReached p made at scaled
 
 -- the tableau is the one after so many written pivots
 pub record IsReachedAfter (p : Parts) (made : ℕ) (at : Tableau) : Type 0 where
@@ -56,9 +65,13 @@ pub record IsWideWithin (p : Parts) (pivots : ℕ) (at : Tableau) (row : ℕ) (c
   pub reached : IsReached p made at scaled
   pub wide : WideAt column p.columns at scaled row
 
+-- the tableau is over, and its exact point and duals, or its exact refutation, do not fit
+abbrev pub IsMisfit : Program → Bounds → Tableau → Type 0
+IsMisfit program box at = (IsLeastTable at.cells × (CertificateFits program box at → ⊥)) ⊎ (IsEmptyTable at × (RefutationFits program at → ⊥))
+
 abbrev pub IsRelaxed : Program → Bounds → ℕ → Relaxed → Type 0
-IsRelaxed program box pivots (Least point duals at) = IsReachedWithin (parts_of program box) pivots at × IsLeastTable at.cells × RowsInRange program duals × Certifies program box point duals
-IsRelaxed program box pivots (Empty duals at) = IsReachedWithin (parts_of program box) pivots at × IsEmptyTable at × RowsInRange program duals × Refutes program box duals
+IsRelaxed program box pivots (Least point duals at) = IsReachedWithin (parts_of program box) pivots at × IsLeastTable at.cells × RowsInRange program duals × Certifies program box point duals × IsExactPoint box at point × AreExactDuals program at duals
+IsRelaxed program box pivots (Empty duals at) = IsReachedWithin (parts_of program box) pivots at × IsEmptyTable at × RowsInRange program duals × Refutes program box duals × AreExactRefutation program at duals
 IsRelaxed program box pivots (Wide at row col duals) = IsWideWithin (parts_of program box) pivots at row col × IsOpenAt at row × RowsInRange program duals
-IsRelaxed program box pivots (Misfit at duals) = IsReachedWithin (parts_of program box) pivots at × (IsLeastTable at.cells ⊎ IsEmptyTable at) × RowsInRange program duals
+IsRelaxed program box pivots (Misfit at duals) = IsReachedWithin (parts_of program box) pivots at × IsMisfit program box at × RowsInRange program duals
 IsRelaxed program box pivots (Spent at made duals) = IsReachedAfter (parts_of program box) made at × (made ≡ pivots) × ((row : ℕ) × IsOpenAt at row) × RowsInRange program duals

@@ -5,7 +5,7 @@ use Rattle.std.specs.declared.cmp.Ordering.{Ordering}
 use Rattle.exact_fraction.specs.declared.fraction.Fraction.{Fraction}
 use Rattle.exact_fraction.specs.Exact.{IsRatio}
 use Rattle.exact_simplex.specs.Tableaus.{Scaled, IsFirstAbove}
-use Rattle.exact_simplex.specs.Cells.{cell_of, row_of, number_at, ShowsRow, Shows}
+use Rattle.exact_simplex.specs.Cells.{cell_of, row_of, number_at, ShowsRow}
 use Rattle.exact_simplex.specs.Pivots.{QuotientFits}
 
 -- the order of a / p and b / q, over any scale

@@ -1,7 +1,11 @@
 -- When certificate multipliers stand for weights of the rows.
-use Rattle.std.specs.Prelude.{ℕ, ◌≡◌, ◌+◌, ◌<◌, ◌≤◌, List, [], ◌∷◌, ℤ, pos, ◌*ℤ◌, if◌then◌else◌, ◌==◌, All}
+use Rattle.std.specs.Prelude.{ℕ, ◌≡◌, ◌+◌, ◌<◌, List, [], ◌∷◌, length, ℤ, pos, ◌*ℤ◌, if◌then◌else◌, ◌==◌, All}
+use Rattle.bound_certificate.specs.declared.multipliers.Multipliers.{Multipliers}
 use Rattle.bound_certificate.specs.declared.multipliers.Top.{Top}
 use Rattle.bound_certificate.specs.Rising.{KeepsRange}
+use Rattle.exact_fraction.specs.declared.fraction.Fraction.{Fraction}
+use Rattle.exact_simplex.specs.Cells.{cell_of}
+use Rattle.exact_simplex.specs.Commons.{IsNumOver}
 
 -- the numerator of row i, 0 where it is not listed
 abbrev pub num_at : List Top → ℕ → ℕ
@@ -17,3 +21,8 @@ pub record AreWeights (rows : ℕ) (den scale : ℕ) (tops : List Top) (weight :
 pub record IsListed (den : ℕ) (tops : List Top) (n : ℕ) : Type 0 where
   pub range : KeepsRange den tops
   pub below : All (λ top. top.row < n) tops
+
+-- the multipliers of the rows are these numbers
+pub record AreMultipliers (numbers : List Fraction) (y : Multipliers) : Type 0 where
+  pub there : All (λ top. top.row < length numbers) y.tops
+  pub nums : (i : ℕ) → i < length numbers → IsNumOver (cell_of numbers i) (num_at y.tops i) y.den

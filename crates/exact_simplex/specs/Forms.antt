@@ -1,5 +1,5 @@
 -- The rows of the tableau of a program in a box, as affine functions of the columns' steps above their lows.
-use Rattle.std.specs.Prelude.{ℕ, ◌≡◌, ◌+◌, ◌-◌, ◌*◌, ◌<◌, ◌≤◌, zero, suc, Bool, true, false, nat_lt, ℤ, pos, ◌+ℤ◌, ◌-ℤ◌, ◌*ℤ◌, if◌then◌else◌, ◌==◌, length, slice_index, slice_index_or}
+use Rattle.std.specs.Prelude.{ℕ, ◌+◌, ◌-◌, zero, suc, nat_lt, ℤ, pos, ◌-ℤ◌, ◌*ℤ◌, if◌then◌else◌, ◌==◌, length, slice_index}
 use Rattle.ip_model.specs.declared.parts.Bounds.{Bounds}
 use Rattle.ip_model.specs.declared.program.Program.{Program}
 use Rattle.ip_model.specs.Limits.{cost_of}

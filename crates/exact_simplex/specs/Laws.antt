@@ -1,5 +1,5 @@
 -- Laws of the written method.
-use Rattle.std.specs.Prelude.{ℕ, ◌≡◌, ◌≤◌, ℤ, pos, ◌*ℤ◌}
+use Rattle.std.specs.Prelude.{ℕ, ◌≡◌, ◌≤◌, pos, ◌*ℤ◌}
 use Rattle.exact_simplex.specs.Tableaus.{Scaled, IsRaised}
 use Rattle.exact_simplex.specs.Forms.{Parts}
 use Rattle.exact_simplex.specs.Start.{start_of, Reaches}

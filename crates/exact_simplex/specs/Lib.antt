@@ -1,5 +1,6 @@
 pub mod Tableaus
 pub mod Forms
+pub mod Commons
 pub mod Duals
 pub mod Start
 pub mod Cells
@@ -9,5 +10,6 @@ pub mod Shapes
 pub mod Beginning
 pub mod Choices
 pub mod Relaxing
+pub mod Certificates
 pub mod Answers
 pub mod Laws

@@ -1,5 +1,5 @@
 -- The operations of the written pivot, and when they fit.
-use Rattle.std.specs.Prelude.{ℕ, ◌≡◌, ◌≢◌, ◌<◌, List, length, ℤ, pos, ◌*ℤ◌, neg_ℤ, unsigned_abs}
+use Rattle.std.specs.Prelude.{ℕ, ◌≢◌, ◌<◌, List, length, pos, ◌*ℤ◌, neg_ℤ, unsigned_abs}
 use Rattle.exact_fraction.specs.declared.fraction.Fraction.{Fraction}
 use Rattle.exact_fraction.specs.Exact.{IsRatio, SumFits, ProductFits, reciprocal_top}
 use Rattle.exact_simplex.specs.Cells.{cell_of, row_of}

@@ -1,5 +1,5 @@
 -- What a relaxation reaches: tableaus after written pivots, over or open.
-use Rattle.std.specs.Prelude.{ℕ, ◌≡◌, ◌+◌, ◌<◌, ◌≤◌, suc, List, length, ℤ, pos, ◌<ℤ◌, Option, Some, None}
+use Rattle.std.specs.Prelude.{ℕ, ◌≡◌, ◌+◌, ◌<◌, ◌≤◌, suc, List, length, pos, ◌<ℤ◌, Option, Some, None}
 use Rattle.exact_fraction.specs.declared.fraction.Fraction.{Fraction}
 use Rattle.exact_simplex.specs.declared.state.State.{State}
 use Rattle.exact_simplex.specs.declared.state.State.TheVariants.{Least, Empty, Open}
@@ -10,7 +10,7 @@ use Rattle.exact_simplex.specs.Tableaus.{Scaled, StandsFor, IsPositive, pivot_of
 use Rattle.exact_simplex.specs.Forms.{Parts, forms_of}
 use Rattle.exact_simplex.specs.Start.{start_of, Reaches}
 use Rattle.exact_simplex.specs.Cells.{cell_of, row_of, Shows}
-use Rattle.exact_simplex.specs.Choices.{IsCandidate, FirstCandidate, ChoiceFits}
+use Rattle.exact_simplex.specs.Choices.{FirstCandidate, ChoiceFits}
 use Rattle.exact_simplex.specs.Pivots.{PivotFits}
 
 -- the tableau shows one over one denominator that so many written pivots reach from the start tableau; it stands for the program and is lexicographically positive

@@ -1,5 +1,5 @@
 -- The start tableau of a program in a box, over 1, and the tableaus that written pivots reach.
-use Rattle.std.specs.Prelude.{ℕ, zero, suc, ◌≡◌, ◌+◌, ◌<◌, ℤ, pos}
+use Rattle.std.specs.Prelude.{ℕ, zero, suc}
 use Rattle.exact_simplex.specs.Tableaus.{Scaled, IsPivotPlace, pivot_of}
 use Rattle.exact_simplex.specs.Forms.{Parts, forms_of}
 

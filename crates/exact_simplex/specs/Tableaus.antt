@@ -1,6 +1,6 @@
 -- Tableaus over one denominator, what they stand for, and the pivot of the written method.
 -- A number t of the tableau is the whole number that stands here over `scale`. Column 0 is `value`, column k + 1 is `factor` at k.
-use Rattle.std.specs.Prelude.{ℕ, ◌≡◌, ◌+◌, ◌*◌, ◌<◌, ◌≤◌, suc, ℤ, pos, ◌+ℤ◌, ◌-ℤ◌, ◌*ℤ◌, ◌<ℤ◌, ◌≤ℤ◌, unsigned_abs, if◌then◌else◌, ◌==◌}
+use Rattle.std.specs.Prelude.{ℕ, ◌≡◌, ◌*◌, ◌<◌, ◌≤◌, suc, ℤ, pos, ◌+ℤ◌, ◌-ℤ◌, ◌*ℤ◌, ◌<ℤ◌, ◌≤ℤ◌, unsigned_abs, if◌then◌else◌, ◌==◌}
 use Rattle.ip_model.specs.Sums.{sum_below}
 
 -- an affine function of the columns' steps above their lows

@@ -3,6 +3,7 @@
 
 mod advance;
 mod calls;
+mod commons;
 mod laws;
 mod lows;
 mod multiples;
@@ -10,6 +11,7 @@ mod numbers;
 mod picks;
 mod point;
 mod relaxed;
+mod row_weights;
 mod rows;
 mod run;
 mod start;

@@ -7,13 +7,13 @@ use ip_model::Point;
 /// The answer of the written simplex method, with the tableau that it reached.
 #[derive(Drop)]
 pub enum Relaxed {
-    /// The tableau is over: its point lies in the relaxation, and its duals bound the relaxation by the point's value.
+    /// The tableau is over: its exact point lies in the relaxation, and its exact duals bound the relaxation by the point's value.
     Least {
         point: Point,
         duals: Multipliers,
         at: Tableau,
     },
-    /// The tableau is over, and its duals refute the box.
+    /// The tableau is over, and its exact refutation refutes the box.
     Empty {
         duals: Multipliers,
         at: Tableau,
@@ -25,7 +25,7 @@ pub enum Relaxed {
         col: Option<u32>,
         duals: Multipliers,
     },
-    /// The tableau is over, and no certificate of it was made within the limits.
+    /// The tableau is over, and its exact point and duals, or its exact refutation, do not fit a certificate's limits.
     Misfit {
         at: Tableau,
         duals: Multipliers,

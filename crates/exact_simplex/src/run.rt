@@ -1,48 +1,80 @@
 //! The written simplex method.
-ghost use Rattle.std.specs.Prelude.{◌≡◌, ℕ, ◌<◌, ◌≤◌, true, None, Some, All, IfOk, length};
+ghost use Rattle.std.specs.Prelude.{◌≡◌, ℕ, ◌<◌, ◌≤◌, true, None, Some, IfOk, IfSome, IfNone, length, slice_index};
 ghost use Rattle.ip_model.specs.Points.{IsBoxOf};
+ghost use Rattle.bound_certificate.specs.Bound.{RowsInRange};
+ghost use Rattle.bound_certificate.specs.declared.multipliers.Multipliers.{Multipliers};
 ghost use Rattle.exact_simplex.specs.Choices.{FirstCandidate};
 ghost use Rattle.exact_simplex.specs.Forms.{parts_of};
-ghost use Rattle.exact_simplex.specs.Answers.{Certifies, IsReachedAfter, IsReachedWithin, IsRelaxed, IsWideWithin};
+ghost use Rattle.exact_simplex.specs.Answers.{IsMisfit, IsReachedAfter, IsReachedAt, IsReachedWithin, IsRelaxed, IsWideWithin};
+ghost use Rattle.exact_simplex.specs.Certificates.{AreExactDuals, AreExactRefutation, RefutationFits, UnitsDiffer};
 ghost use Rattle.exact_simplex.specs.Relaxing.{IsFirstBelow, IsLeastTable};
 
-use crate::multiples::{exact_multipliers, near_multipliers, refuting_weights, row_weights};
+use crate::multiples::{exact_multipliers, near_multipliers};
 use crate::point::point_of;
 use crate::relaxed::Relaxed;
+use crate::row_weights::{dual_weights, refuting_weights};
 use crate::start::start;
 use crate::state::{Advance, State};
 use crate::table::Tableau;
-use bound_certificate::{Multipliers, Sums, bound, refutes};
-use ip_model::{Bounds, Point, Program, point_ok, point_value_up};
+use bound_certificate::Multipliers;
+use ip_model::{Bounds, Program};
 use std::alloc::{AllocError, Global};
 
 /// The duals of a tableau, rounded down where they do not fit: multipliers that bound the program from below.
 fn near_duals(alloc: Global, program: &Program, at: &Tableau) -> Result<Multipliers, AllocError>
-    requires { 0 < length at.now.cells }
-    ensures { IfOk result (λ y. All (λ top. top.row < length program.now.rows) y.tops) }
+    requires some { 0 < length at.now.cells }
+    requires units { UnitsDiffer at.now.units }
+    ensures { IfOk result (λ y. RowsInRange program.now y) }
 {
-    let weights = row_weights(alloc, at, 0, program.rows.len())?;
+    let weights = dual_weights(alloc, at, program.rows.len())?;
     near_multipliers(alloc, weights.as_slice())
 }
 
-/// Whether the point lies in the relaxation and the multipliers bound it by the point's value.
-fn certifies(
+/// The duals of a tableau, where they fit.
+fn exact_duals(
+    alloc: Global,
+    program: &Program,
+    at: &Tableau,
+) -> Result<Option<Multipliers>, AllocError>
+    requires some { 0 < length at.now.cells }
+    requires units { UnitsDiffer at.now.units }
+    ensures duals { IfOk result (λ found. IfSome found (λ y. AreExactDuals program.now at.now y)) }
+    ensures none { IfOk result (λ found. IfNone found ((y : Multipliers) → AreExactDuals program.now at.now y → ⊥)) }
+{
+    let weights = dual_weights(alloc, at, program.rows.len())?;
+    exact_multipliers(alloc, weights.as_slice())
+}
+
+/// The refutation of a tableau that is empty at a row, where it fits.
+fn exact_refutation(
+    alloc: Global,
+    program: &Program,
+    at: &Tableau,
+    row: u32,
+) -> Result<Option<Multipliers>, AllocError>
+    requires below { IsFirstBelow at.now.cells row }
+    requires units { UnitsDiffer at.now.units }
+    requires apart { (k : ℕ) → k < length at.now.units → slice_index at.now.units k ≡ row → ⊥ }
+    ensures refutation { IfOk result (λ found. IfSome found (λ y. AreExactRefutation program.now at.now y)) }
+    ensures none { IfOk result (λ found. IfNone found (RefutationFits program.now at.now → ⊥)) }
+{
+    let weights = refuting_weights(alloc, at, row, program.rows.len())?;
+    exact_multipliers(alloc, weights.as_slice())
+}
+
+/// The answer of a tableau that is over and whose certificate does not fit.
+fn misfit(
     alloc: Global,
     program: &Program,
     bounds: &Bounds,
-    point: &Point,
-    duals: &Multipliers,
-) -> Result<bool, AllocError>
-    requires is_box { IsBoxOf program.now bounds.now }
-    requires rows { All (λ top. top.row < length program.now.rows) duals.now.tops }
-    ensures { IfOk result (λ certain. certain ≡ true → Certifies program.now bounds.now point.now duals.now) }
+    at: Tableau,
+) -> Result<Relaxed, AllocError>
+    requires some { 0 < length at.cells }
+    requires units { UnitsDiffer at.units }
+    ensures { IfOk result (λ found. (pivots : ℕ) → IsReachedWithin (parts_of program.now bounds.now) pivots at → IsMisfit program.now bounds.now at → IsRelaxed program.now bounds.now pivots found) }
 {
-    if !point_ok(program, bounds, point) {
-        return Ok(false);
-    }
-    let mut sums = Sums::new(alloc, program.columns.len())?;
-    let shown = bound(program, bounds, duals, &mut sums);
-    Ok(shown == point_value_up(program, point))
+    let duals = near_duals(alloc, program, &at)?;
+    Ok(Relaxed::Misfit { at, duals })
 }
 
 /// The answer of a least tableau.
@@ -53,21 +85,17 @@ fn least(
     at: Tableau,
 ) -> Result<Relaxed, AllocError>
     requires is_box { IsBoxOf program.now bounds.now }
-    requires size { length at.units < length at.cells }
-    requires lows { length bounds.now.low ≡ length at.units }
+    requires reached { IsReachedAt (parts_of program.now bounds.now) at }
     requires least { IsLeastTable at.cells }
     ensures { IfOk result (λ found. (pivots : ℕ) → IsReachedWithin (parts_of program.now bounds.now) pivots at → IsRelaxed program.now bounds.now pivots found) }
 {
-    let weights = row_weights(alloc, &at, 0, program.rows.len())?;
-    if let Some(duals) = exact_multipliers(alloc, weights.as_slice())? {
-        if let Some(point) = point_of(alloc, &at, bounds)? {
-            if certifies(alloc, program, bounds, &point, &duals)? {
-                return Ok(Relaxed::Least { point, duals, at });
-            }
-        }
-    }
-    let duals = near_multipliers(alloc, weights.as_slice())?;
-    Ok(Relaxed::Misfit { at, duals })
+    let Some(point) = point_of(alloc, &at, bounds)? else {
+        return misfit(alloc, program, bounds, at);
+    };
+    let Some(duals) = exact_duals(alloc, program, &at)? else {
+        return misfit(alloc, program, bounds, at);
+    };
+    Ok(Relaxed::Least { point, duals, at })
 }
 
 /// The answer of a tableau that is empty at a row.
@@ -79,19 +107,15 @@ fn empty(
     row: u32,
 ) -> Result<Relaxed, AllocError>
     requires is_box { IsBoxOf program.now bounds.now }
+    requires reached { IsReachedAt (parts_of program.now bounds.now) at }
     requires below { IsFirstBelow at.cells row }
     requires none { FirstCandidate None at.cells row (length at.units) }
     ensures { IfOk result (λ found. (pivots : ℕ) → IsReachedWithin (parts_of program.now bounds.now) pivots at → IsRelaxed program.now bounds.now pivots found) }
 {
-    let weights = refuting_weights(alloc, &at, row, program.rows.len())?;
-    if let Some(duals) = exact_multipliers(alloc, weights.as_slice())? {
-        let mut sums = Sums::new(alloc, program.columns.len())?;
-        if refutes(program, bounds, &duals, &mut sums) {
-            return Ok(Relaxed::Empty { duals, at });
-        }
-    }
-    let duals = near_duals(alloc, program, &at)?;
-    Ok(Relaxed::Misfit { at, duals })
+    let Some(duals) = exact_refutation(alloc, program, &at, row)? else {
+        return misfit(alloc, program, bounds, at);
+    };
+    Ok(Relaxed::Empty { duals, at })
 }
 
 /// The answer where the written pivot at a row does not fit.
@@ -103,6 +127,7 @@ fn wide(
     row: u32,
     col: Option<u32>,
 ) -> Result<Relaxed, AllocError>
+    requires units { UnitsDiffer at.units }
     requires below { IsFirstBelow at.cells row }
     ensures { IfOk result (λ found. (pivots first : ℕ) → FirstCandidate (Some first) at.cells row (length at.units) → IsWideWithin (parts_of program.now bounds.now) pivots at row col → IsRelaxed program.now bounds.now pivots found) }
 {
@@ -125,6 +150,7 @@ fn spent(
     first: u32,
     made: u64,
 ) -> Result<Relaxed, AllocError>
+    requires units { UnitsDiffer at.units }
     requires below { IsFirstBelow at.cells row }
     requires first { FirstCandidate (Some first) at.cells row (length at.units) }
     ensures { IfOk result (λ found. IsReachedAfter (parts_of program.now bounds.now) made at → IsRelaxed program.now bounds.now made found) }

@@ -1,4 +1,4 @@
-use Rattle.std.proofs.Common.{to_z, rules, arith, to_z-of_z, FitsSigned, ◌≤◌, length, ap}
+use Rattle.std.proofs.Common.{to_z, arith, ◌≤◌, length, ap}
 use Rattle.std.specs.Int.{w64}
 use Rattle.bound_certificate.proofs.Wide.{unsigned_abs-add}
 use Rattle.exact_simplex.proofs.SumBelow.{sum_below-next}

@@ -1,4 +1,4 @@
-use Rattle.std.proofs.Common.{to_z, rules, arith, to_z-of_z, FitsSigned, get_or, pos, ◌<◌, ◌≤◌, ◌≡◌, length, unsigned_abs, length-set, ◌∙◌, ◌+ℤ◌, ap}
+use Rattle.std.proofs.Common.{rules, arith, to_z-of_z, FitsSigned, get_or, pos, ◌<◌, ◌≡◌, length, length-set, ◌∙◌, ◌+ℤ◌, ap}
 use Rattle.std.specs.Int.{w64, w32}
 use Rattle.std.proofs.lemmas.List.{get_or_read}
 use Rattle.ip_model.specs.declared.parts.Term.{Term}

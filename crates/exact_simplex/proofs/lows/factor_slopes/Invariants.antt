@@ -1,4 +1,4 @@
-use Rattle.std.proofs.Common.{◌≡◌, ℕ, ◌*◌, ◌<◌, ◌≤◌, ◌^◌, pos, ◌+ℤ◌, unsigned_abs, length, get_or, drop}
+use Rattle.std.proofs.Common.{◌≡◌, ℕ, ◌*◌, ◌≤◌, pos, ◌+ℤ◌, unsigned_abs, length, get_or, drop}
 use Rattle.ip_model.specs.Sums.{factor_of}
 use Rattle.exact_simplex.proofs.lows.factor_slopes.Given as goal
 

@@ -1,4 +1,4 @@
-use Rattle.std.proofs.Common.{refl, to_z, rules, arith, to_z-of_z, FitsSigned, slice_index}
+use Rattle.std.proofs.Common.{refl, to_z, arith, slice_index}
 use Rattle.std.specs.Int.{w64}
 use Rattle.bound_certificate.proofs.Wide.{unsigned_abs-add}
 use Rattle.ip_model.proofs.Rows.{next_term}

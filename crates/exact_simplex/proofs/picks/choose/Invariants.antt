@@ -1,4 +1,4 @@
-use Rattle.std.proofs.Common.{ℕ, ◌<◌, suc}
+use Rattle.std.proofs.Common.{◌<◌, suc}
 use Rattle.exact_simplex.specs.Choices.{IsCandidate, IsHeld, IsSetting}
 use Rattle.exact_simplex.specs.Tableaus.{Scaled}
 use Rattle.exact_simplex.proofs.picks.choose.Given as goal

@@ -1,4 +1,4 @@
-use Rattle.std.proofs.Common.{add-one, subst, ap, ◌∙◌, ◌≡◌, Option, Some, None, true, false}
+use Rattle.std.proofs.Common.{add-one, subst, ap, ◌∙◌, Some}
 use Rattle.exact_simplex.specs.Choices.{NextGives}
 use Rattle.exact_simplex.proofs.HeldSteps.{next_gives, next_of}
 use Rattle.exact_simplex.proofs.picks.compared.Goals as goal

@@ -1,4 +1,4 @@
-use Rattle.std.proofs.Common.{◌≡◌, sym, ◌∙◌, [], subst, arith, length, ◌<◌}
+use Rattle.std.proofs.Common.{◌≡◌, sym, ◌∙◌, [], subst, length, ◌<◌}
 use Rattle.std.proofs.lemmas.List.{get_or_read}
 use Rattle.exact_simplex.specs.Cells.{cell_of, row_of, no_fraction}
 use Rattle.exact_simplex.specs.Changes.{ChangesFit}

@@ -1,4 +1,4 @@
-use Rattle.std.proofs.Common.{refl, pos, length, rules, to_z-of_z, FitsSigned}
+use Rattle.std.proofs.Common.{length, rules, to_z-of_z, FitsSigned}
 use Rattle.std.specs.Int.{w64}
 use Rattle.exact_simplex.specs.Forms.{room, form_at, parts_of}
 use Rattle.exact_simplex.proofs.StartSteps.{form_when}

@@ -1,4 +1,4 @@
-use Rattle.std.proofs.Common.{add-one, subst, sym}
+use Rattle.std.proofs.Common.{add-one}
 use Rattle.exact_simplex.proofs.TableSteps.{shows_after}
 use Rattle.exact_simplex.proofs.table.Tableau.pivot.Goals as goal
 
