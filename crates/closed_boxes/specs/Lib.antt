@@ -1,0 +1,4 @@
+pub mod Helpers
+pub mod Settling
+pub mod Weighing
+pub mod Closing
