@@ -1,0 +1,4 @@
+pub mod Boxes
+pub mod Ways
+pub mod Growth
+pub mod Leaves
