@@ -1,0 +1,4 @@
+pub mod KeyFacts
+pub mod ExploreFacts
+pub mod StateFacts
+pub mod FoundFacts

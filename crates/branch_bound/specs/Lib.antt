@@ -1,0 +1,7 @@
+pub mod Keys
+pub mod Columns
+pub mod Openings
+pub mod Exploring
+pub mod Making
+pub mod Searching
+pub mod Finding

@@ -1,0 +1,20 @@
+//! Leaves that are open.
+
+use ip_model::{Bounds, Point};
+
+/// How the box of a leaf is to be split: in a column at `at`, and the point that tells why, if there is one.
+#[derive(Debug, Drop)]
+pub struct Cut {
+    pub column: u32,
+    pub at: u32,
+    pub shown: Option<Point>,
+}
+
+/// A leaf that is not refuted: its bound, its box, and how it is to be split. One without a cut need not be split, since a whole
+/// point is known whose value is at most the bound.
+#[derive(Debug, Drop)]
+pub struct OpenLeaf {
+    pub bound: u64,
+    pub bounds: Bounds,
+    pub cut: Option<Cut>,
+}

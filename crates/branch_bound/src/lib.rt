@@ -1,0 +1,16 @@
+//! Branch and bound: the best whole point of a program, with a tree that bounds the program from below.
+#![tactic(auto)]
+
+mod best_first;
+mod children;
+mod columns;
+mod explore;
+mod found;
+mod frontier;
+mod leaf;
+mod make;
+mod sides;
+mod state;
+
+pub use best_first::search;
+pub use found::{Best, Found};
