@@ -1,0 +1,71 @@
+//! The plan of a whole point.
+ghost use Rattle.std.specs.Prelude.{◌≡◌, ◌≤◌, IfOk, IsTrue, true};
+ghost use Rattle.plan_model.specs.declared.cases.Assignment.{Assignment};
+ghost use Rattle.plan_model.specs.Allowed.{fits};
+ghost use Rattle.ip_model.specs.Points.{IsWholePoint, value_of};
+ghost use Rattle.program_rows.specs.Phases.{phase_allowed, phase_cost};
+ghost use Rattle.program_rows.specs.Settings.{setting_of};
+ghost use Rattle.phase_search.specs.Phases.{HasChosen, IsPlanOf, IsReady};
+
+use crate::programs::Problem;
+use class_expand::expand;
+use plan_document::Planned;
+use plan_model::{Assignment, Case, copy_assignment, free_plan, rack_cost, region_cost};
+use program_rows::Phase;
+use ras_table::List;
+use std::alloc::{AllocError, Global};
+
+/// The assignment that a phase starts from.
+fn start(alloc: Global, case: &Case, phase: &Phase<'_>) -> Result<Assignment, AllocError>
+    ensures { IfOk result (λ a. a ≡ (setting_of case.now phase.now).start) }
+{
+    match phase {
+        Phase::Region => free_plan(alloc, case),
+        Phase::Rack { from, .. } => copy_assignment(alloc, from),
+    }
+}
+
+/// What an assignment costs in a phase.
+fn cost(case: &Case, phase: &Phase<'_>, a: &Assignment) -> u64
+    requires fitting { IsTrue (fits case.now a.now) }
+    requires chosen { HasChosen case.now phase.now }
+    ensures cost { result ≡ phase_cost case.now (setting_of case.now phase.now) a.now }
+    ensures most { result ≤ 141000000000000 }
+{
+    match phase {
+        Phase::Region => region_cost(case, a),
+        Phase::Rack { chosen, .. } => rack_cost(case, a, chosen),
+    }
+}
+
+/// The plan of a whole point: its expansion, with its cost and how far that is above a bound that lies at or under what
+/// each allowed assignment costs.
+pub(crate) fn plan_of(
+    alloc: Global,
+    case: &Case,
+    phase: &Phase<'_>,
+    problem: &Problem,
+    point: &List<u32>,
+    lower: u64,
+) -> Result<Planned, AllocError>
+    requires ready { IsReady case.now phase.now problem.now.classes.list problem.now.program }
+    requires whole { IsWholePoint problem.now.program point.now }
+    requires lower { (a : Assignment) → phase_allowed case.now (setting_of case.now phase.now) a ≡ true → lower ≤ phase_cost case.now (setting_of case.now phase.now) a }
+    ensures { IfOk result (λ plan. IsPlanOf case.now (setting_of case.now phase.now) (value_of problem.now.program point.now) lower plan) }
+{
+    let mut of = start(alloc, case, phase)?;
+    expand(
+        case,
+        phase,
+        &problem.classes,
+        &problem.program,
+        point,
+        &mut of,
+    );
+    let value = cost(case, phase, &of);
+    Ok(Planned {
+        of,
+        value,
+        gap: value - lower,
+    })
+}

@@ -1,0 +1,6 @@
+pub mod Given
+pub mod Fills
+pub mod Endings
+pub mod Bests
+pub mod Running
+pub mod Regions

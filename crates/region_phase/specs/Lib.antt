@@ -1,0 +1,5 @@
+pub mod Kept
+pub mod FirstPlan
+pub mod Sums
+pub mod Best
+pub mod Laws

@@ -1,0 +1,12 @@
+ghost use Rattle.region_phase.specs.FirstPlan.{MoreTakesChangeNothing};
+ghost use Rattle.region_phase.specs.Laws.{FirstPlansOfEight};
+
+/// No reservation of a first plan takes more servers than there are: the takes end where no server may be taken.
+pub fn more_takes_change_nothing()
+    ensures { MoreTakesChangeNothing }
+{}
+
+/// First plans for two switchboards of four servers each, computed.
+pub fn first_plans_of_eight()
+    ensures { FirstPlansOfEight }
+{}
