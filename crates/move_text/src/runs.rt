@@ -4,7 +4,7 @@ ghost use Rattle.std.specs.List.{list_all};
 ghost use Rattle.ras_inventory.specs.RegionRule.{server_names};
 ghost use Rattle.ras_requests.specs.RequestsRule.{reservation_names};
 ghost use Rattle.plan_model.specs.Allowed.{fits, serves};
-ghost use Rattle.plan_model.specs.Units.{assigned};
+ghost use Rattle.plan_model.specs.Units.{servers_with_places};
 ghost use Rattle.online_mover.specs.Events.{event_within};
 ghost use Rattle.online_mover.specs.States.{state_at_start};
 ghost use Rattle.online_mover.specs.Changes.{commanded};
@@ -121,7 +121,7 @@ pub fn move_text(
 ) -> Result<Vec<u8>, AllocError>
     requires servers { length case.now.places ≡ length region.now.servers }
     requires fitting { IsTrue (fits case.now target.now) }
-    requires serving { IsTrue (list_all (serves case.now) (assigned case.now target.now)) }
+    requires serving { IsTrue (list_all (serves case.now) (servers_with_places case.now target.now)) }
     requires some { 1 ≤ at_once }
     requires few { at_once ≤ 64 }
     requires there { list_all (λ timed. event_within (length region.now.servers) timed.event) events.now ≡ true }

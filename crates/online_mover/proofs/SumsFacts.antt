@@ -10,7 +10,7 @@ use Rattle.std.proofs.lemmas.Slice.Zip.{get_or-zip, length-zip}
 use Rattle.plan_model.specs.declared.cases.Place.{Place}
 use Rattle.plan_model.specs.declared.cases.Case.{Case}
 use Rattle.plan_model.specs.declared.cases.Assignment.{Assignment}
-use Rattle.plan_model.specs.Units.{is_for, share_of, assigned, units, units_on_board, value_for, want_of, place_of, no_place, free_plan}
+use Rattle.plan_model.specs.Units.{is_for, share_of, servers_with_places, units, units_on_board, value_for, want_of, place_of, no_place, free_plan}
 use Rattle.plan_model.specs.Allowed.{fits, survives_loss}
 use Rattle.plan_model.specs.CaseRule.{place_in_range}
 use Rattle.plan_model.proofs.SumLemmas.{sum_by-filter, length-fits, units-most}
@@ -25,7 +25,7 @@ use Rattle.online_mover.proofs.Rules.{all-set}
 -- ---- a sum over the servers when one of them gets something else
 
 sum-with : (f : Place × Option ℕ → ℕ) (case : Case) (a : Assignment) (s : ℕ) (to : Option ℕ) → IsTrue (fits case a) → s < length case.places
-    → sum_by f (assigned case (with_place a s to)) + f (place_of case s, get_or a.of s None) ≡ sum_by f (assigned case a) + f (place_of case s, to)
+    → sum_by f (servers_with_places case (with_place a s to)) + f (place_of case s, get_or a.of s None) ≡ sum_by f (servers_with_places case a) + f (place_of case s, to)
 sum-with f case a s to fitting within =
     let there : s < length a.of = omega (arith, within, length-fits case a fitting) in
     let inside : s < length (zip case.places a.of) = omega (arith, within, there, length-zip case.places a.of) in
@@ -50,8 +50,8 @@ board-with case a r s board to fitting within =
     omega (
       arith,
       sum-with (λ t. cond (t.0.board == board) (share_of case r t) 0) case a s to fitting within,
-      sum_by-filter (λ t. t.0.board == board) (share_of case r) (assigned case a),
-      sum_by-filter (λ t. t.0.board == board) (share_of case r) (assigned case (with_place a s to)),
+      sum_by-filter (λ t. t.0.board == board) (share_of case r) (servers_with_places case a),
+      sum_by-filter (λ t. t.0.board == board) (share_of case r) (servers_with_places case (with_place a s to)),
     )
 
 -- ---- what a server gives another reservation, and what none gives
@@ -333,7 +333,7 @@ units-nobody case r = sum-nobody (share_of case r) (λ s. refl) case.places
 
 board-nobody : (case : Case) (r board : ℕ) → units_on_board case (free_plan case) r board ≡ 0
 board-nobody case r board =
-    sum_by-filter (λ t. t.0.board == board) (share_of case r) (assigned case (free_plan case))
+    sum_by-filter (λ t. t.0.board == board) (share_of case r) (servers_with_places case (free_plan case))
     ∙ sum-nobody (λ t. cond (t.0.board == board) (share_of case r t) 0) (λ s. no-more (s.board == board) 0 refl) case.places
 
 all-none : (n k : ℕ) → list_all (λ (o : Option ℕ). option_map_or (λ q. nat_lt q n) o true) (replicate k None) ≡ true

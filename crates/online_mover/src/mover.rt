@@ -1,7 +1,7 @@
 ghost use Rattle.std.specs.Prelude.{◌≡◌, ◌<◌, ◌≤◌, ◌↔◌, ℕ, true, Some, None, IsTrue, IfOk, length, is_some, if◌then◌else◌};
 ghost use Rattle.std.specs.Option.{unwrap_or, option_map};
 ghost use Rattle.plan_model.specs.Allowed.{fits, serves};
-ghost use Rattle.plan_model.specs.Units.{assigned};
+ghost use Rattle.plan_model.specs.Units.{servers_with_places};
 ghost use Rattle.std.specs.List.{list_all};
 ghost use Rattle.online_mover.specs.States.{State, state_rule, state_at_start, with_targets, with_server, server_of, in_flight as in_flight_of, is_protected, server_in_range, held_for};
 ghost use Rattle.online_mover.specs.Commands.{command_of as command_for, least_command as least_command_of, after_command, spares as spares_of, is_protected_without};
@@ -55,7 +55,7 @@ impl Mover {
         at_once: u32,
     ) -> Result<Mover, AllocError>
         requires fitting { IsTrue (fits case.now target.now) }
-        requires serving { IsTrue (list_all (serves case.now) (assigned case.now target.now)) }
+        requires serving { IsTrue (list_all (serves case.now) (servers_with_places case.now target.now)) }
         requires some { 1 ≤ at_once }
         requires few { at_once ≤ 64 }
         ensures { IfOk result (λ mover. mover ≡ state_at_start case.now target.now at_once) }
@@ -74,7 +74,7 @@ impl Mover {
     /// Gives each server another target. No command is given.
     pub fn replan(&mut self, target: &Assignment)
         requires fitting { IsTrue (fits self.old.case target.now) }
-        requires serving { IsTrue (list_all (serves self.old.case) (assigned self.old.case target.now)) }
+        requires serving { IsTrue (list_all (serves self.old.case) (servers_with_places self.old.case target.now)) }
         ensures { self.new ≡ with_targets self.old target.now }
     {
         retargeted(&mut self.servers, target.of.as_slice());
