@@ -1,5 +1,5 @@
 -- A joined case has as many places as the region has servers, and as many reservations as the requests have.
-use Rattle.std.proofs.Common.{ℕ, ◌≡◌, ◌∙◌, sym, ap, List, length, map, min, arith}
+use Rattle.std.proofs.Common.{◌≡◌, ◌∙◌, sym, ap, List, length, min, arith}
 use Rattle.std.specs.Prelude.{zip}
 use Rattle.std.proofs.lemmas.List.{length-map}
 use Rattle.std.proofs.lemmas.Slice.Zip.{length-zip}
@@ -28,3 +28,8 @@ pub wants-many : (region : Region) (requests : Requests) (bindings : Bindings) (
     → length (reservation_names requests.list) ≡ length case.wants
 wants-many region requests bindings case joined =
     length-map requests.list (λ r. r.name) ∙ sym (ap (λ l. length l) joined.wants ∙ length-map requests.list (joined_want region.types region.centers))
+
+-- as many places as the region has servers
+pub servers-many : (region : Region) (requests : Requests) (bindings : Bindings) (case : Case) → length bindings.of ≡ length region.servers → IsJoined region requests bindings case
+    → length case.places ≡ length region.servers
+servers-many region requests bindings case same joined = sym (places-many region requests bindings case same joined) ∙ length-map region.servers (λ s. s.name)

@@ -2,3 +2,5 @@ pub mod CheckLemmas
 pub mod InputLemmas
 pub mod JoinLemmas
 pub mod ShapeLemmas
+pub mod MoveLemmas
+pub mod SolveLemmas

@@ -1,11 +1,11 @@
 -- What was read as a document has the shape that the checker asks for, in a case with these servers and reservations.
-use Rattle.std.proofs.Common.{ℕ, ◌≡◌, ◌∙◌, ◌≤◌, ◌<◌, ◌^◌, sym, ap, refl, subst, Bool, true, false, not, ◌&&◌, ◌||◌, nat_le, nat_lt, nat_eq, List, [], ◌∷◌, map, length, Option, Some, None, option_and_then, option_map, is_some, IfSome, Result, Ok, Err, if◌then◌else◌, arith, codes}
-use Rattle.std.specs.Prelude.{◌==◌, position}
+use Rattle.std.proofs.Common.{ℕ, ◌≡◌, ◌∙◌, ◌≤◌, ◌<◌, ◌^◌, sym, ap, refl, subst, Bool, true, false, not, ◌&&◌, ◌||◌, nat_le, nat_lt, List, [], ◌∷◌, length, Option, Some, None, option_and_then, option_map, is_some, IfSome, Result, Ok, Err, if◌then◌else◌, codes}
+use Rattle.std.specs.Prelude.{◌==◌}
 use Rattle.std.specs.List.{All, list_all}
 use Rattle.std.specs.Option.{option_map_or}
 use Rattle.std.specs.Str.{bytes_eq}
 use Rattle.std.proofs.lemmas.List.Quantifiers.{position-Some}
-use Rattle.std.proofs.lemmas.Bool.{ltb-true, leb-true, lt-ltb, eq-eqb}
+use Rattle.std.proofs.lemmas.Bool.{leb-true, lt-ltb, eq-eqb}
 use Rattle.std.proofs.lemmas.List.Elements.{All-nil, All-cons}
 use Rattle.serde_json.specs.Data.{Data, Members}
 use Rattle.serde_json.specs.Find.{get, as_object, as_str}
@@ -15,7 +15,6 @@ use Rattle.plan_model.specs.declared.cases.Assignment.{Assignment}
 use Rattle.plan_model.specs.Allowed.{fits}
 use Rattle.plan_document.specs.Faults.{and_then, ok_or}
 use Rattle.plan_document.specs.Members.{numbered, are_known, needed_whole}
-use Rattle.plan_document.specs.Numbers.{entries_of}
 use Rattle.plan_document.specs.Parts.{SeenPart, seen_part, part_at, named_part, plan_of, part_shape, stated_of, claim_of, lower_of, if_stated_fits, stated_fits, claim_fits, at_most, assignment_in, assignment_of, place_in, places_of, chosen_at, chosen_of, with_chosen_one, entries_at, part_place, nodes_at}
 use Rattle.plan_document.specs.Documents.{SeenDocument, seen_document, seen_rack, document_of, document_in, of_value, json_of, form_of, may_have_rack, top_of, top_shape, head_of, if_rack_allowed, rack_allowed, ranged_head, head_fits, region_in, rack_in, region_has_assignment}
 use Rattle.csv.specs.Reading.{strip_bom}

@@ -12,7 +12,7 @@ pub data Answered : Type 0 where
 
 -- an answer of the code, by its bytes
 abbrev pub seen : Answer → Answered
-seen (answer.Printed e text) = Printed e (string_bytes text)
+seen (answer.Printed e text) = Printed e text.items
 seen (answer.Invalid note) = Invalid (string_bytes note)
 
 -- the status of an ending

@@ -1,10 +1,7 @@
 -- What `check` answers.
 use Rattle.std.specs.Prelude.{ℕ, ◌≡◌, ◌↔◌, List, Option, Some, None, Result, Ok, Err, IfSome}
 use Rattle.ras_inventory.specs.RegionRule.{server_names}
-use Rattle.ras_inventory.specs.Regions.{region_of, seen as seen_region}
-use Rattle.ras_inventory.specs.Bounds.{bindings_of}
 use Rattle.ras_requests.specs.RequestsRule.{reservation_names}
-use Rattle.ras_requests.specs.Requested.{requests_of, seen as seen_requests}
 use Rattle.plan_document.specs.Documents.{seen_document, document_of}
 use Rattle.plan_model.specs.declared.cases.Case.{Case}
 use Rattle.plan_model.specs.Joined.{IsJoined}
@@ -19,14 +16,12 @@ use Rattle.ras_answers.specs.declared.answer.Ending.TheVariants as ending
 use Rattle.ras_answers.specs.declared.all.Inputs.{Inputs}
 use Rattle.ras_answers.specs.declared.inputs.InputFault.{InputFault}
 use Rattle.ras_answers.specs.Answered.{Answered, Printed, Invalid}
-use Rattle.ras_answers.specs.Inputs.{invalid_note, told}
+use Rattle.ras_answers.specs.Inputs.{AreCaseFiles, invalid_note, told}
 
 -- the inputs are what the bytes of the files say
 pub record AreRead (inventory requests bindings plan : List ℕ) (inputs : Inputs) : Type 0 where
-  pub region_is : region_of inventory ≡ Ok (seen_region inputs.region)
-  pub requests_are : requests_of requests ≡ Ok (seen_requests inputs.requests)
-  pub bindings_are : bindings_of (server_names inputs.region.servers) bindings ≡ Ok inputs.bindings.of
-  pub document_is : document_of (server_names inputs.region.servers) (reservation_names inputs.requests.list) plan ≡ Ok (seen_document inputs.document)
+  pub files : AreCaseFiles inventory requests bindings inputs.files
+  pub document_is : document_of (server_names inputs.files.region.servers) (reservation_names inputs.files.requests.list) plan ≡ Ok (seen_document inputs.document)
 
 -- the inputs, or the note on the first file that is not valid
 abbrev pub GivesInputs : List ℕ → List ℕ → List ℕ → List ℕ → Result Inputs InputFault → Type 0
@@ -40,14 +35,22 @@ ending_of (No reason) = ending.NotAccepted
 
 -- the verdict on a document in the case of its region, requests and bindings: by the first reason that holds, yes exactly
 -- where the document is accepted, and then the document keeps its promises
-pub record IsVerdictOn (inputs : Inputs) (a : Answered) : Type 0 where
-  pub case : Case
-  pub joined : IsJoined inputs.region inputs.requests inputs.bindings case
-  pub verdict : Verdict
+pub record IsJudged (inputs : Inputs) (case : Case) (verdict : Verdict) : Type 0 where
+  pub joined : IsJoined inputs.files.region inputs.files.requests inputs.files.bindings case
   pub first : verdict ≡ verdict_of (first_reason case inputs.document)
   pub accepted : (verdict ≡ Yes) ↔ IsAccepted case inputs.document
   pub promises : verdict ≡ Yes → KeepsPromises case inputs.document
-  pub printed : a ≡ Printed (ending_of verdict) (verdict_text inputs.region inputs.requests inputs.document verdict)
+
+-- the line of a verdict
+abbrev pub verdict_answer : Inputs → Verdict → Answered
+verdict_answer inputs verdict = Printed (ending_of verdict) (verdict_text inputs.files.region inputs.files.requests inputs.document verdict)
+
+-- the verdict is printed
+pub record IsVerdictOn (inputs : Inputs) (a : Answered) : Type 0 where
+  pub case : Case
+  pub verdict : Verdict
+  pub judged : IsJudged inputs case verdict
+  pub printed : a ≡ verdict_answer inputs verdict
 
 pub record IsVerdictOnBytes (inventory requests bindings plan : List ℕ) (a : Answered) : Type 0 where
   pub inputs : Inputs

@@ -1,21 +1,26 @@
 -- What the files of a command say, or the note on the first that is not valid.
-use Rattle.std.specs.Prelude.{ℕ, List, [], ◌++◌, codes, Option, Some, None, Result, Ok, Err, string_bytes}
+use Rattle.std.specs.Prelude.{ℕ, ◌≡◌, List, [], ◌++◌, codes, Option, Some, None, IfSome, Result, Ok, Err, string_bytes}
 use Rattle.ras_inventory.specs.declared.fault.RegionFault.{RegionFault}
 use Rattle.ras_inventory.specs.declared.fault.RegionFault.TheVariants as region
-use Rattle.ras_inventory.specs.Regions.{Regional, region_of}
+use Rattle.ras_inventory.specs.Regions.{Regional, region_of, seen as seen_region}
 use Rattle.ras_inventory.specs.declared.bindings.Binding.{Binding}
 use Rattle.ras_inventory.specs.declared.fault.BindingsFault.{BindingsFault}
 use Rattle.ras_inventory.specs.declared.fault.BindingsFault.TheVariants as bindings
 use Rattle.ras_inventory.specs.Bounds.{bindings_of}
 use Rattle.ras_requests.specs.declared.fault.RequestsFault.{RequestsFault}
 use Rattle.ras_requests.specs.declared.fault.RequestsFault.TheVariants as requests
-use Rattle.ras_requests.specs.Requested.{Requested, requests_of}
+use Rattle.ras_requests.specs.Requested.{Requested, requests_of, seen as seen_requests}
 use Rattle.plan_document.specs.declared.fault.DocFault.{DocFault}
 use Rattle.plan_document.specs.declared.fault.DocFault.TheVariants as document
 use Rattle.plan_document.specs.Documents.{SeenDocument, document_of}
+use Rattle.online_mover.specs.declared.timed.Timed.{Timed}
+use Rattle.online_mover.specs.declared.fault.EventsFault.{EventsFault}
+use Rattle.online_mover.specs.declared.fault.EventsFault.TheVariants as events
+use Rattle.online_mover.specs.EventFiles.{events_of}
 use Rattle.ras_inventory.specs.RegionRule.{server_names}
 use Rattle.ras_requests.specs.RequestsRule.{reservation_names}
-use Rattle.ras_texts.specs.Notes.{region_note, bindings_note, requests_note, document_note}
+use Rattle.ras_texts.specs.Notes.{region_note, bindings_note, requests_note, document_note, events_note}
+use Rattle.ras_answers.specs.declared.all.CaseFiles.{CaseFiles}
 use Rattle.ras_answers.specs.declared.inputs.InputFault.{InputFault}
 use Rattle.ras_answers.specs.declared.inputs.InputFault.TheVariants as fault
 
@@ -46,8 +51,12 @@ abbrev pub document_line : DocFault → List ℕ
 document_line (document.At place why) = document_note place why ++ codes "\n"
 document_line document.Memory = []
 
--- the region of an inventory, the requests of a file, the bindings of a file over names of servers, and the document of
--- a file over names of servers and reservations
+abbrev pub events_line : EventsFault → List ℕ
+events_line (events.At line why) = events_note line why ++ codes "\n"
+events_line events.Memory = []
+
+-- the region of an inventory, the requests of a file, the bindings of a file over names of servers, the document of a
+-- file over names of servers and reservations, and the events of a file over names of servers
 abbrev pub inventory_read : List ℕ → Result Regional (List ℕ)
 inventory_read bytes = with_note region_line (region_of bytes)
 
@@ -60,20 +69,45 @@ bindings_read servers bytes = with_note bindings_line (bindings_of servers bytes
 abbrev pub document_read : List (List ℕ) → List (List ℕ) → List ℕ → Result SeenDocument (List ℕ)
 document_read servers reservations bytes = with_note document_line (document_of servers reservations bytes)
 
--- what comes after a value, or the note on its fault
-abbrev pub note_then : {Y : Type 0} → Result Y (List ℕ) → (Y → Option (List ℕ)) → Option (List ℕ)
-note_then (Err note) next = Some note
-note_then (Ok y) next = next y
+abbrev pub events_read : List (List ℕ) → List ℕ → Result (List Timed) (List ℕ)
+events_read servers bytes = with_note events_line (events_of servers bytes)
 
--- whether a value was read
+-- what comes after a value, or the note on its fault
+abbrev pub or_note : {Y Z : Type 0} → Result Y (List ℕ) → (Y → Result Z (List ℕ)) → Result Z (List ℕ)
+or_note (Err note) next = Err note
+or_note (Ok y) next = next y
+
+-- what the files of a case say
+pub record SeenCase : Type 0 where
+  pub region : Regional
+  pub wanted : Requested
+  pub bound : List Binding
+
+-- the files of a case, or the note on the first that is not valid: the inventory, the requests, the bindings
+abbrev pub case_read : List ℕ → List ℕ → List ℕ → Result SeenCase (List ℕ)
+case_read inventory requests bindings =
+    or_note (inventory_read inventory) (λ region.
+    or_note (requests_read requests) (λ wanted.
+    or_note (bindings_read (server_names region.servers) bindings) (λ bound.
+    Ok (record { region = region; wanted = wanted; bound = bound }))))
+
+-- the files of a case are what their bytes say
+pub record AreCaseFiles (inventory requests bindings : List ℕ) (files : CaseFiles) : Type 0 where
+  pub region_is : region_of inventory ≡ Ok (seen_region files.region)
+  pub requests_are : requests_of requests ≡ Ok (seen_requests files.requests)
+  pub bindings_are : bindings_of (server_names files.region.servers) bindings ≡ Ok files.bindings.of
+
+-- the files of a case, or the note on the first that is not valid
+abbrev pub GivesCaseFiles : List ℕ → List ℕ → List ℕ → Result CaseFiles InputFault → Type 0
+GivesCaseFiles inventory requests bindings (Ok files) = AreCaseFiles inventory requests bindings files
+GivesCaseFiles inventory requests bindings (Err f) = IfSome (told f) (λ note. case_read inventory requests bindings ≡ Err note)
+
+-- the note, where there is one
 abbrev pub note_in : {Y : Type 0} → Result Y (List ℕ) → Option (List ℕ)
 note_in (Err note) = Some note
 note_in (Ok y) = None
 
--- the note on the first file that is not valid, and none where all are: the inventory, the requests, the bindings, the document
+-- the note on the first file that is not valid, and none where all are: the files of a case, and the document of a plan over it
 abbrev pub invalid_note : List ℕ → List ℕ → List ℕ → List ℕ → Option (List ℕ)
 invalid_note inventory requests bindings plan =
-    note_then (inventory_read inventory) (λ region.
-    note_then (requests_read requests) (λ wanted.
-    note_then (bindings_read (server_names region.servers) bindings) (λ bound.
-    note_in (document_read (server_names region.servers) (reservation_names wanted.list) plan))))
+    note_in (or_note (case_read inventory requests bindings) (λ files. document_read (server_names files.region.servers) (reservation_names files.wanted.list) plan))

@@ -1,3 +1,5 @@
 pub mod Answered
 pub mod Check
 pub mod Inputs
+pub mod Move
+pub mod Solve

@@ -5,7 +5,7 @@ ghost use Rattle.std.specs.Prelude.{◌≡◌, ◌<◌};
 pub enum Ending {
     /// It did what was asked.
     Done,
-    /// The document is not accepted.
+    /// The document is not accepted, or has no assignment to move servers to.
     NotAccepted,
     /// No assignment is allowed.
     Infeasible,
@@ -33,7 +33,7 @@ impl Ending {
 #[derive(Debug, Drop)]
 pub enum Answer {
     /// A text to print.
-    Printed { ending: Ending, text: String },
+    Printed { ending: Ending, text: Vec<u8> },
     /// A file is not valid, or its program is too large: a note, which ends with a line feed.
     Invalid { note: String },
 }

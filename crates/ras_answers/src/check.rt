@@ -3,19 +3,18 @@ ghost use Rattle.ras_inventory.specs.RegionRule.{server_names};
 ghost use Rattle.ras_requests.specs.RequestsRule.{reservation_names};
 ghost use Rattle.plan_model.specs.declared.cases.Case.{Case};
 ghost use Rattle.plan_checker.specs.Shape.{HasShape};
-ghost use Rattle.ras_texts.specs.Verdicts.{verdict_text};
-ghost use Rattle.ras_answers.specs.Answered.{Printed, seen};
-ghost use Rattle.ras_answers.specs.Check.{CheckAnswers, GivesInputs, IsVerdictOn, ending_of};
+ghost use Rattle.ras_answers.specs.Answered.{seen};
+ghost use Rattle.ras_answers.specs.Check.{CheckAnswers, GivesInputs, IsJudged, IsVerdictOn, verdict_answer};
 
 use crate::all::Inputs;
 use crate::answer::{Answer, Ending};
-use crate::inputs::{InputFault, bindings_in, document_in, region_in, requests_in};
+use crate::inputs::{InputFault, document_in, read_case};
 use plan_checker::{Verdict, check};
-use plan_model::join;
+use plan_model::{Case, join};
 use ras_texts::verdict_text;
 use std::alloc::{AllocError, Global};
 
-/// What the files of `check` say, or the note on the first that is not valid.
+/// What the files of a case and of a plan over it say, or the note on the first that is not valid.
 pub fn read_inputs(
     alloc: Global,
     inventory: &[u8],
@@ -28,34 +27,25 @@ pub fn read_inputs(
     requires bindings { length bindings.now ≤ 64 * 2 ^ 20 }
     requires plan { length plan.now ≤ 64 * 2 ^ 20 }
     ensures inputs { GivesInputs inventory.now requests.now bindings.now plan.now result }
-    ensures each { IfOk result (λ inputs. length inputs.bindings.of ≡ length inputs.region.servers) }
+    ensures each { IfOk result (λ inputs. length inputs.files.bindings.of ≡ length inputs.files.region.servers) }
 {
-    let region = match region_in(alloc, inventory) {
-        Ok(region) => region,
+    let files = match read_case(alloc, inventory, requests, bindings) {
+        Ok(files) => files,
         Err(fault) => return Err(fault),
     };
-    let requests = match requests_in(alloc, requests) {
-        Ok(requests) => requests,
-        Err(fault) => return Err(fault),
-    };
-    let bindings = match bindings_in(alloc, &region, bindings) {
-        Ok(bindings) => bindings,
-        Err(fault) => return Err(fault),
-    };
-    match document_in(alloc, &region, &requests, plan) {
-        Ok(document) => Ok(Inputs {
-            region,
-            requests,
-            bindings,
-            document,
-        }),
+    match document_in(alloc, &files.region, &files.requests, plan) {
+        Ok(document) => Ok(Inputs { files, document }),
         Err(fault) => Err(fault),
     }
 }
 
-// A verdict on the document, as a text.
-fn printed(alloc: Global, inputs: &Inputs, verdict: Verdict) -> Result<Answer, AllocError>
-    ensures { IfOk result (λ answer. seen answer ≡ Printed (ending_of verdict) (verdict_text inputs.now.region inputs.now.requests inputs.now.document verdict)) }
+/// A verdict on the document, as a text.
+pub(crate) fn printed(
+    alloc: Global,
+    inputs: &Inputs,
+    verdict: Verdict,
+) -> Result<Answer, AllocError>
+    ensures { IfOk result (λ answer. seen answer ≡ verdict_answer inputs.now verdict) }
 {
     let ending = match verdict {
         Verdict::Yes => Ending::Done,
@@ -63,24 +53,52 @@ fn printed(alloc: Global, inputs: &Inputs, verdict: Verdict) -> Result<Answer, A
     };
     let text = verdict_text(
         alloc,
-        &inputs.region,
-        &inputs.requests,
+        &inputs.files.region,
+        &inputs.files.requests,
         &inputs.document,
         verdict,
     )?;
-    Ok(Answer::Printed { ending, text })
+    Ok(Answer::Printed {
+        ending,
+        text: text.into_bytes(),
+    })
+}
+
+/// The case of files, and the verdict on their document.
+#[derive(Drop)]
+pub(crate) struct Judged {
+    pub case: Case,
+    pub verdict: Verdict,
+}
+
+/// The case of the files, and the verdict on the document in it.
+pub(crate) fn judge(alloc: Global, inputs: &Inputs) -> Result<Judged, AllocError>
+    requires each { length inputs.now.files.bindings.of ≡ length inputs.now.files.region.servers }
+    requires shape { (case : Case) → length (server_names inputs.now.files.region.servers) ≡ length case.places
+        → length (reservation_names inputs.now.files.requests.list) ≡ length case.wants → HasShape case inputs.now.document }
+    ensures judged { IfOk result (λ judged. IsJudged inputs.now judged.case judged.verdict) }
+    ensures shape { IfOk result (λ judged. HasShape judged.case inputs.now.document) }
+    ensures places { IfOk result (λ judged. length judged.case.places ≡ length inputs.now.files.region.servers) }
+{
+    let case = join(
+        alloc,
+        &inputs.files.region,
+        &inputs.files.requests,
+        &inputs.files.bindings,
+    )?;
+    let verdict = check(alloc, &case, &inputs.document)?;
+    Ok(Judged { case, verdict })
 }
 
 // The verdict on the document in the case of its files.
 fn verdict_answer(alloc: Global, inputs: &Inputs) -> Result<Answer, AllocError>
-    requires each { length inputs.now.bindings.of ≡ length inputs.now.region.servers }
-    requires shape { (case : Case) → length (server_names inputs.now.region.servers) ≡ length case.places
-        → length (reservation_names inputs.now.requests.list) ≡ length case.wants → HasShape case inputs.now.document }
+    requires each { length inputs.now.files.bindings.of ≡ length inputs.now.files.region.servers }
+    requires shape { (case : Case) → length (server_names inputs.now.files.region.servers) ≡ length case.places
+        → length (reservation_names inputs.now.files.requests.list) ≡ length case.wants → HasShape case inputs.now.document }
     ensures { IfOk result (λ answer. IsVerdictOn inputs.now (seen answer)) }
 {
-    let case = join(alloc, &inputs.region, &inputs.requests, &inputs.bindings)?;
-    let verdict = check(alloc, &case, &inputs.document)?;
-    printed(alloc, inputs, verdict)
+    let judged = judge(alloc, inputs)?;
+    printed(alloc, inputs, judged.verdict)
 }
 
 /// What `check` answers to the bytes of its files: the note on the first that is not valid, or the verdict on the

@@ -1,16 +1,21 @@
-ghost use Rattle.std.specs.Prelude.{◌≡◌, ◌≤◌, ◌*◌, ◌^◌, ◌++◌, codes, IfOk, IfSome, MatchResult, None, length, string_bytes};
+ghost use Rattle.std.specs.Prelude.{◌≡◌, ◌<◌, ◌≤◌, ◌*◌, ◌^◌, ◌++◌, codes, IfOk, IfSome, MatchResult, None, length, string_bytes, true};
+ghost use Rattle.std.specs.List.{list_all};
+ghost use Rattle.online_mover.specs.Events.{event_within};
 ghost use Rattle.ras_table.specs.Answers.{Gives};
 ghost use Rattle.ras_inventory.specs.RegionRule.{server_names};
 ghost use Rattle.ras_inventory.specs.Regions.{seen as seen_region};
 ghost use Rattle.ras_requests.specs.RequestsRule.{reservation_names};
 ghost use Rattle.ras_requests.specs.Requested.{seen as seen_requests};
 ghost use Rattle.plan_document.specs.Documents.{seen_document};
-ghost use Rattle.ras_answers.specs.Inputs.{bindings_read, document_read, inventory_read, requests_read, told};
+ghost use Rattle.ras_answers.specs.Inputs.{GivesCaseFiles, bindings_read, document_read, events_read, inventory_read, requests_read, told};
 
+use crate::all::CaseFiles;
+use online_mover::{EventsFault, Timed, read_events};
 use plan_document::{DocFault, Document, read_document};
 use ras_inventory::{Bindings, BindingsFault, Region, RegionFault, read_bindings, read_region};
 use ras_requests::{Requests, RequestsFault, read_requests};
-use ras_texts::{bindings_note, document_note, region_note, requests_note};
+use ras_table::List;
+use ras_texts::{bindings_note, document_note, events_note, region_note, requests_note};
 use std::alloc::{AllocError, Global};
 use thiserror::Error;
 
@@ -75,6 +80,37 @@ pub fn bindings_in(alloc: Global, region: &Region, bytes: &[u8]) -> Result<Bindi
     }
 }
 
+/// What the files of a case say, or the note on the first that is not valid.
+pub fn read_case(
+    alloc: Global,
+    inventory: &[u8],
+    requests: &[u8],
+    bindings: &[u8],
+) -> Result<CaseFiles, InputFault>
+    requires inventory { length inventory.now ≤ 64 * 2 ^ 20 }
+    requires requests { length requests.now ≤ 64 * 2 ^ 20 }
+    requires bindings { length bindings.now ≤ 64 * 2 ^ 20 }
+    ensures files { GivesCaseFiles inventory.now requests.now bindings.now result }
+    ensures each { IfOk result (λ files. length files.bindings.of ≡ length files.region.servers) }
+{
+    let region = match region_in(alloc, inventory) {
+        Ok(region) => region,
+        Err(fault) => return Err(fault),
+    };
+    let requests = match requests_in(alloc, requests) {
+        Ok(requests) => requests,
+        Err(fault) => return Err(fault),
+    };
+    match bindings_in(alloc, &region, bindings) {
+        Ok(bindings) => Ok(CaseFiles {
+            region,
+            requests,
+            bindings,
+        }),
+        Err(fault) => Err(fault),
+    }
+}
+
 /// The document of a file over a region and requests, or the note on its first fault.
 pub fn document_in(
     alloc: Global,
@@ -89,5 +125,18 @@ pub fn document_in(
         Ok(document) => Ok(document),
         Err(DocFault::At { place, why }) => Err(line_of(document_note(alloc, place, why))),
         Err(DocFault::Memory) => Err(InputFault::Memory),
+    }
+}
+
+/// The events of a file over a region, or the note on their first fault.
+pub fn events_in(alloc: Global, region: &Region, bytes: &[u8]) -> Result<List<Timed>, InputFault>
+    requires { length bytes.now ≤ 64 * 2 ^ 20 }
+    ensures events { Gives (λ events. events) told result (events_read (server_names region.now.servers) bytes.now) }
+    ensures there { IfOk result (λ events. list_all (λ timed. event_within (length region.now.servers) timed.event) events ≡ true) }
+{
+    match read_events(alloc, region, bytes) {
+        Ok(events) => Ok(events),
+        Err(EventsFault::At { line, why }) => Err(line_of(events_note(alloc, line, &why))),
+        Err(EventsFault::Memory) => Err(InputFault::Memory),
     }
 }

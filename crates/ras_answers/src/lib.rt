@@ -5,8 +5,14 @@ mod all;
 mod answer;
 mod check;
 mod inputs;
+mod laws;
+mod moves;
+mod solving;
 
-pub use all::Inputs;
+pub use all::{CaseFiles, Inputs};
 pub use answer::{Answer, Ending};
 pub use check::{check_answer, read_inputs};
 pub use inputs::InputFault;
+pub use laws::solved_is_checked;
+pub use moves::move_answer;
+pub use solving::{Options, solve_answer};

@@ -1,2 +1,2 @@
-pub mod AnswerLemmas
 pub mod PiecesLemmas
+pub mod ReadLemmas

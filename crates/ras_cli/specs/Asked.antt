@@ -4,16 +4,20 @@ use Rattle.ras_outside.specs.Causes.{Rose}
 use Rattle.ras_outside.specs.Held.{Files, file_at}
 use Rattle.ras_words.specs.Rows.{Refusal}
 use Rattle.ras_words.specs.Words.{command_of}
+use Rattle.ras_words.specs.declared.command.SolveWords.{SolveWords}
 use Rattle.ras_words.specs.declared.command.Command.{Command}
 use Rattle.ras_words.specs.declared.command.Command.TheVariants as command
 use Rattle.ras_answers.specs.Answered.{Answered}
 use Rattle.ras_answers.specs.Check.{CheckAnswers}
+use Rattle.ras_answers.specs.Move.{MoveAnswers}
+use Rattle.ras_answers.specs.Solve.{SolveAnswers}
+use Rattle.ras_answers.specs.declared.solving.Options.{Options}
 
 -- the commands that are served
 abbrev pub is_served : Command → Bool
 is_served (command.Check words) = true
-is_served (command.Solve words) = false
-is_served (command.Move words) = false
+is_served (command.Solve words) = true
+is_served (command.Move words) = true
 is_served (command.Sample words) = false
 
 -- what words ask for, where they are taken
@@ -27,8 +31,9 @@ asked_of words = asked_in (command_of words)
 -- the files that a command names, in the order in which they are read, each with the most bytes that it may have
 abbrev pub files_of : Command → List (List ℕ × ℕ)
 files_of (command.Check words) = (words.inventory, 16777216) ∷ (words.requests, 16777216) ∷ (words.bindings, 16777216) ∷ (words.plan, 67108864) ∷ []
-files_of (command.Solve words) = []
-files_of (command.Move words) = []
+files_of (command.Solve words) = (words.inventory, 16777216) ∷ (words.requests, 16777216) ∷ (words.bindings, 16777216) ∷ []
+files_of (command.Move words) =
+    (words.inventory, 16777216) ∷ (words.requests, 16777216) ∷ (words.bindings, 16777216) ∷ (words.plan, 67108864) ∷ (words.events, 16777216) ∷ []
 files_of (command.Sample words) = []
 
 -- the files of what is asked for, and none where the words are not taken
@@ -36,9 +41,15 @@ abbrev pub files_asked : Option Command → List (List ℕ × ℕ)
 files_asked None = []
 files_asked (Some c) = files_of c
 
+-- what is asked of a solution
+abbrev pub options_of : SolveWords → Options
+options_of words = record { gap = words.gap; nodes = words.nodes; racks = words.racks }
+
 -- what a command answers to the bytes of its files
 abbrev pub Answers : Command → List (List ℕ) → Answered → Type 0
 Answers (command.Check words) (inventory ∷ requests ∷ bindings ∷ plan ∷ []) a = CheckAnswers inventory requests bindings plan a
+Answers (command.Solve words) (inventory ∷ requests ∷ bindings ∷ []) a = SolveAnswers inventory requests bindings (options_of words) a
+Answers (command.Move words) (inventory ∷ requests ∷ bindings ∷ plan ∷ events ∷ []) a = MoveAnswers inventory requests bindings plan events words.at_once a
 Answers c texts a = ⊥
 
 -- the bytes of a file that is held and not too long

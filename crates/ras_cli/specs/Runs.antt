@@ -1,12 +1,11 @@
 -- What a run tells and prints.
-use Rattle.std.specs.Prelude.{ℕ, ◌≡◌, ◌==◌, ◌||◌, Bool, List, [], codes, Option, Some, None}
+use Rattle.std.specs.Prelude.{ℕ, ◌==◌, ◌||◌, Bool, List, [], codes, Option, Some, None}
 use Rattle.std.specs.Io.KnownBytes.{Appends}
 use Rattle.ras_outside.specs.Causes.{Rose}
 use Rattle.ras_outside.specs.Held.{Files}
 use Rattle.ras_outside.specs.declared.shelf.ShelfFault.{ShelfFault}
 use Rattle.ras_outside.specs.declared.shelf.ShelfFault.TheVariants as fault
 use Rattle.ras_words.specs.declared.command.Command.{Command}
-use Rattle.ras_answers.specs.declared.answer.Ending.{Ending}
 use Rattle.ras_answers.specs.Answered.{Answered, Printed, Invalid, code_of}
 use Rattle.ras_cli.specs.Asked.{Answers, HasTexts, files_of}
 

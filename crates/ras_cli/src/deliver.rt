@@ -10,13 +10,13 @@ use ras_answers::{Answer, Ending};
 use ras_outside::Sink;
 
 // Prints a text, and gives the status.
-fn print_text<K: Sink, E: Sink>(ending: Ending, text: &str, out: &mut K, note: &mut E) -> u8
+fn print_text<K: Sink, E: Sink>(ending: Ending, text: &[u8], out: &mut K, note: &mut E) -> u8
     ensures whole { result ≢ 7 → (result ≡ code_of ending) × Appends (K.written out.old) (K.written out.new) text.now × (note.new ≡ note.old) }
     ensures prefix { result ≡ 7 → AppendsSome (K.written out.old) (K.written out.new) text.now }
     ensures cause { result ≡ 7 → Rose (K.faults out.old) (K.faults out.new) }
     ensures told { result ≡ 7 → Tells (E.faults note.old) (E.faults note.new) (E.written note.old) (E.written note.new) (codes "ras: write failed\n") }
 {
-    match put_all(out, text.as_bytes()) {
+    match put_all(out, text) {
         Ok(()) => ending.code(),
         Err(_) => {
             tell(note, "ras: write failed\n");
@@ -37,7 +37,7 @@ pub fn deliver<K: Sink, E: Sink>(answer: &Answer, out: &mut K, note: &mut E) -> 
     ensures known { (is_printed result ≡ true) ⊎ (result ≡ 3) ⊎ (result ≡ 7) }
 {
     match answer {
-        Answer::Printed { ending, text } => print_text(*ending, text.as_str(), out, note),
+        Answer::Printed { ending, text } => print_text(*ending, text.as_slice(), out, note),
         Answer::Invalid { note: message } => {
             tell(note, message.as_str());
             3

@@ -2,76 +2,78 @@ ghost use Rattle.std.specs.Prelude.{◌≡◌, ◌≢◌, ◌≤◌, ◌⊎◌, 
 ghost use Rattle.std.specs.Io.KnownBytes.{Appends};
 ghost use Rattle.ras_outside.specs.Causes.{Rose, RoseBy, AppendsSome};
 ghost use Rattle.ras_words.specs.Rows.{Refused};
-ghost use Rattle.ras_words.specs.Words.{command_of};
-ghost use Rattle.ras_words.specs.declared.command.Command.TheVariants as command;
+ghost use Rattle.ras_words.specs.Words.{InRanges, command_of};
 ghost use Rattle.ras_answers.specs.Answered.{seen};
-ghost use Rattle.ras_cli.specs.Asked.{BreaksHeld, LongerHeld, asked_of, files_asked, files_of};
+ghost use Rattle.ras_cli.specs.Asked.{BreaksHeld, LongerHeld, asked_of, files_asked, files_of, is_served};
 ghost use Rattle.ras_cli.specs.Runs.{AtAnswer, Tells, is_printed, note_of, status_of, text_of};
 
+use crate::answers::{answer_of, is_served};
 use crate::deliver::deliver;
-use crate::files::read_check_files;
+use crate::files::read_files;
+use crate::named::named_files;
 use crate::note::{tell, tell_fault};
-use ras_answers::{Answer, check_answer};
+use ras_answers::Answer;
 use ras_outside::{Shelf, ShelfFault, Sink};
 use ras_table::{List, Word};
-use ras_words::{CheckWords, Command, WordsFault, read_words};
+use ras_words::{Command, WordsFault, read_words};
 use std::alloc::Global;
 
-// What `check` answers to the files that it reads.
-fn answer_check<S: Shelf>(
+// What a command answers to the files that it names.
+fn answer_at<S: Shelf>(
     alloc: Global,
-    words: &CheckWords,
+    command: &Command,
     shelf: &mut S,
 ) -> Result<Answer, ShelfFault>
-    ensures answer { IfOk result (λ a. AtAnswer (S.held shelf.old) (Some (command.Check words.now)) (λ answer. seen a ≡ answer)) }
+    requires served { is_served command.now ≡ true }
+    requires ranges { InRanges command.now }
+    ensures answer { IfOk result (λ a. AtAnswer (S.held shelf.old) (Some command.now) (λ answer. seen a ≡ answer)) }
     ensures failed { IsErrOf result ShelfFault.Failed → Rose (S.faults shelf.old) (S.faults shelf.new) }
-    ensures broke { IsErrOf result ShelfFault.Failed → BreaksHeld (S.held shelf.old) (files_of (command.Check words.now)) (S.broke shelf.old) (S.broke shelf.new) }
+    ensures broke { IsErrOf result ShelfFault.Failed → BreaksHeld (S.held shelf.old) (files_of command.now) (S.broke shelf.old) (S.broke shelf.new) }
     ensures long { IsErrOf result ShelfFault.Long → Rose (S.over shelf.old) (S.over shelf.new) }
     ensures taken { IsErrOf result ShelfFault.Long → RoseBy 16777217 (S.taken shelf.old) (S.taken shelf.new) }
-    ensures longer { IsErrOf result ShelfFault.Long → LongerHeld (S.held shelf.old) (files_of (command.Check words.now)) }
+    ensures longer { IsErrOf result ShelfFault.Long → LongerHeld (S.held shelf.old) (files_of command.now) }
 {
-    let files = read_check_files(alloc, words, shelf)?;
-    match check_answer(
-        alloc,
-        files.inventory.as_slice(),
-        files.requests.as_slice(),
-        files.bindings.as_slice(),
-        files.plan.as_slice(),
-    ) {
+    let Ok(named) = named_files(alloc, command) else {
+        return Err(ShelfFault::Memory);
+    };
+    let files = read_files(alloc, named.as_slice(), shelf)?;
+    match answer_of(alloc, command, files.as_slice()) {
         Ok(answer) => Ok(answer),
         Err(_) => Err(ShelfFault::Memory),
     }
 }
 
-// A run of `check`.
-fn run_check<S: Shelf, K: Sink, E: Sink>(
+// A run of a command.
+fn run_command<S: Shelf, K: Sink, E: Sink>(
     alloc: Global,
-    words: &CheckWords,
+    command: &Command,
     shelf: &mut S,
     out: &mut K,
     note: &mut E,
 ) -> u8
-    ensures printed { is_printed result ≡ true → AtAnswer (S.held shelf.old) (Some (command.Check words.now))
+    requires served { is_served command.now ≡ true }
+    requires ranges { InRanges command.now }
+    ensures printed { is_printed result ≡ true → AtAnswer (S.held shelf.old) (Some command.now)
         (λ a. (status_of a ≡ result) × Appends (K.written out.old) (K.written out.new) (text_of a)) }
     ensures silent { is_printed result ≡ true → note.new ≡ note.old }
-    ensures invalid { result ≡ 3 → AtAnswer (S.held shelf.old) (Some (command.Check words.now))
+    ensures invalid { result ≡ 3 → AtAnswer (S.held shelf.old) (Some command.now)
         (λ a. (status_of a ≡ 3) × Tells (E.faults note.old) (E.faults note.new) (E.written note.old) (E.written note.new) (note_of a)) }
-    ensures prefix { result ≡ 7 → AtAnswer (S.held shelf.old) (Some (command.Check words.now))
+    ensures prefix { result ≡ 7 → AtAnswer (S.held shelf.old) (Some command.now)
         (λ a. (is_printed (status_of a) ≡ true) × AppendsSome (K.written out.old) (K.written out.new) (text_of a)) }
     ensures unwritten { is_printed result ≡ false → result ≢ 7 → out.new ≡ out.old }
     ensures failed { result ≡ 6 → Rose (S.faults shelf.old) (S.faults shelf.new) }
-    ensures broke { result ≡ 6 → BreaksHeld (S.held shelf.old) (files_of (command.Check words.now)) (S.broke shelf.old) (S.broke shelf.new) }
+    ensures broke { result ≡ 6 → BreaksHeld (S.held shelf.old) (files_of command.now) (S.broke shelf.old) (S.broke shelf.new) }
     ensures write { result ≡ 7 → Rose (K.faults out.old) (K.faults out.new) }
     ensures long { result ≡ 8 → Rose (S.over shelf.old) (S.over shelf.new) }
     ensures taken { result ≡ 8 → RoseBy 16777217 (S.taken shelf.old) (S.taken shelf.new) }
-    ensures longer { result ≡ 8 → LongerHeld (S.held shelf.old) (files_of (command.Check words.now)) }
+    ensures longer { result ≡ 8 → LongerHeld (S.held shelf.old) (files_of command.now) }
     ensures told_failed { result ≡ 6 → Tells (E.faults note.old) (E.faults note.new) (E.written note.old) (E.written note.new) (codes "ras: read failed\n") }
     ensures told_write { result ≡ 7 → Tells (E.faults note.old) (E.faults note.new) (E.written note.old) (E.written note.new) (codes "ras: write failed\n") }
     ensures told_long { result ≡ 8 → Tells (E.faults note.old) (E.faults note.new) (E.written note.old) (E.written note.new) (codes "ras: file too long\n") }
     ensures told_memory { result ≡ 9 → Tells (E.faults note.old) (E.faults note.new) (E.written note.old) (E.written note.new) (codes "ras: no memory\n") }
     ensures known { (is_printed result ≡ true) ⊎ (result ≡ 3) ⊎ (result ≡ 6) ⊎ (result ≡ 7) ⊎ (result ≡ 8) ⊎ (result ≡ 9) }
 {
-    match answer_check(alloc, words, shelf) {
+    match answer_at(alloc, command, shelf) {
         Ok(answer) => deliver(&answer, out, note),
         Err(fault) => tell_fault(note, fault),
     }
@@ -81,10 +83,11 @@ fn run_check<S: Shelf, K: Sink, E: Sink>(
 ///
 /// | Status | Comes |
 /// |---|---|
-/// | 0 | the command did what was asked, and its text is printed |
-/// | 1 | `check`: the files are valid and the document is not accepted; the reason is printed |
+/// | 0 | the command did what was asked, and its text is printed; for `solve` the document of a plan, whose gaps are at most the wanted one |
+/// | 1 | `check`, `move`: the files are valid and the document is not accepted; the reason is printed. `move`: the document is accepted and has no assignment; `no target` is printed |
 /// | 2 | the words are not taken; a text for the user is on `note` |
-/// | 3 | a file is not valid; its first fault is on `note` |
+/// | 3 | a file is not valid; its first fault is on `note`. `solve`: the program of the region is too large; its size is on `note` |
+/// | 4, 5 | `solve`: no assignment is allowed; the budget is spent. The document that shows it is printed |
 /// | 6, 7, 8 | a read failed; a write failed, and a front of the text went out; a file is too long |
 /// | 9 | memory ran out |
 ///
@@ -122,9 +125,8 @@ pub fn run<S: Shelf, K: Sink, E: Sink>(
     ensures known { (is_printed result ≡ true) ⊎ (result ≡ 2) ⊎ (result ≡ 3) ⊎ (result ≡ 6) ⊎ (result ≡ 7) ⊎ (result ≡ 8) ⊎ (result ≡ 9) }
 {
     match read_words(alloc, words.as_slice()) {
-        Ok(Command::Check(words)) => run_check(alloc, &words, shelf, out, note),
-        Ok(Command::Solve(_) | Command::Move(_) | Command::Sample(_))
-        | Err(WordsFault::NoCommand) => {
+        Ok(command) if is_served(&command) => run_command(alloc, &command, shelf, out, note),
+        Ok(_) | Err(WordsFault::NoCommand) => {
             tell(note, "ras: bad words\n");
             2
         }

@@ -1,5 +1,5 @@
 -- A number past a list's end names nothing.
-use Rattle.std.proofs.Common.{ℕ, zero, suc, ◌≡◌, refl, List, [], ◌∷◌, map, slice_get, slice_index_or, Option, None, Some}
+use Rattle.std.proofs.Common.{ℕ, zero, suc, ◌≡◌, refl, List, [], ◌∷◌, map, slice_get, slice_index_or, None}
 
 pub none-map : {X : Type 0} (f : X → List ℕ) (xs : List X) (i : ℕ) → None ≡ slice_get xs i → None ≡ slice_get (map f xs) i
 none-map f [] zero h = refl

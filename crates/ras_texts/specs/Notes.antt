@@ -1,4 +1,4 @@
--- The notes on files that are not valid.
+-- The notes on files that are not valid, and on programs that are too large.
 use Rattle.std.specs.Prelude.{ℕ, List, ◌++◌, codes, decimal}
 use Rattle.ras_table.specs.declared.rows.RowFault.{RowFault}
 use Rattle.ras_table.specs.declared.rows.RowFault.TheVariants as row
@@ -8,6 +8,8 @@ use Rattle.ras_inventory.specs.declared.fault.BindingsWhy.{BindingsWhy}
 use Rattle.ras_inventory.specs.declared.fault.BindingsWhy.TheVariants as bindings
 use Rattle.ras_requests.specs.declared.fault.RequestsWhy.{RequestsWhy}
 use Rattle.ras_requests.specs.declared.fault.RequestsWhy.TheVariants as requests
+use Rattle.online_mover.specs.declared.fault.EventsWhy.{EventsWhy}
+use Rattle.online_mover.specs.declared.fault.EventsWhy.TheVariants as events
 use Rattle.plan_document.specs.declared.fault.DocPlace.{DocPlace}
 use Rattle.plan_document.specs.declared.fault.DocPlace.TheVariants as place
 use Rattle.plan_document.specs.declared.fault.DocWhy.{DocWhy}
@@ -50,6 +52,17 @@ requests_why requests.Many = codes "many"
 abbrev pub requests_note : ℕ → RequestsWhy → List ℕ
 requests_note n why = codes "ras: requests: place " ++ (decimal n ++ (codes ": " ++ requests_why why))
 
+abbrev pub events_why : EventsWhy → List ℕ
+events_why events.Head = codes "head"
+events_why (events.Row fault) = row_text fault
+events_why events.Word = codes "word"
+events_why events.Unknown = codes "unknown"
+events_why events.Order = codes "order"
+events_why events.Many = codes "many"
+
+abbrev pub events_note : ℕ → EventsWhy → List ℕ
+events_note line why = codes "ras: events: line " ++ (decimal line ++ (codes ": " ++ events_why why))
+
 abbrev pub place_text : DocPlace → List ℕ
 place_text place.Top = codes "top"
 place_text place.Region = codes "region"
@@ -66,3 +79,10 @@ document_why document.Name = codes "name"
 
 abbrev pub document_note : DocPlace → DocWhy → List ℕ
 document_note p why = codes "ras: plan: " ++ (place_text p ++ (codes ": " ++ document_why why))
+
+-- a program with more columns, or more rows, than a program may have
+abbrev pub columns_note : ℕ → List ℕ
+columns_note columns = codes "ras: program: columns " ++ decimal columns
+
+abbrev pub rows_note : ℕ → List ℕ
+rows_note rows = codes "ras: program: rows " ++ decimal rows

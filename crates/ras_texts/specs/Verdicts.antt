@@ -1,5 +1,5 @@
 -- The text of a verdict.
-use Rattle.std.specs.Prelude.{ℕ, List, [], ◌∷◌, ◌++◌, codes, decimal, Option, Some, None}
+use Rattle.std.specs.Prelude.{ℕ, List, [], ◌++◌, codes, decimal, Option, Some, None}
 use Rattle.std.specs.Option.{unwrap_or}
 use Rattle.ras_inventory.specs.declared.region.Region.{Region}
 use Rattle.ras_requests.specs.declared.all.Requests.{Requests}

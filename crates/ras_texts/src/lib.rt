@@ -6,5 +6,7 @@ mod notes;
 mod reasons;
 mod verdicts;
 
-pub use notes::{bindings_note, document_note, region_note, requests_note};
+pub use notes::{
+    bindings_note, columns_note, document_note, events_note, region_note, requests_note, rows_note,
+};
 pub use verdicts::verdict_text;

@@ -1,7 +1,8 @@
-//! The notes on files that are not valid.
+//! The notes on files that are not valid, and on programs that are too large.
 ghost use Rattle.std.specs.Prelude.{◌≡◌, IfOk, string_bytes};
-ghost use Rattle.ras_texts.specs.Notes.{bindings_note, bindings_why, document_note, document_why, place_text, region_note, region_why, requests_note, requests_why, row_text};
+ghost use Rattle.ras_texts.specs.Notes.{bindings_note, bindings_why, columns_note, document_note, document_why, events_note, events_why, place_text, region_note, region_why, requests_note, requests_why, row_text, rows_note};
 
+use online_mover::EventsWhy;
 use plan_document::{DocPlace, DocWhy};
 use ras_inventory::{BindingsWhy, RegionWhy};
 use ras_requests::RequestsWhy;
@@ -116,4 +117,40 @@ pub fn document_note(alloc: Global, place: DocPlace, why: DocWhy) -> Result<Stri
     let place = place_text(alloc, place)?;
     let why = document_why(why);
     format!(in alloc; "ras: plan: {place}: {why}")
+}
+
+// Why a line of events is refused.
+fn events_why(alloc: Global, why: &EventsWhy) -> Result<String, AllocError>
+    ensures { IfOk result (λ text. string_bytes text ≡ events_why why.now) }
+{
+    match why {
+        EventsWhy::Head => String::from_str(alloc, "head"),
+        EventsWhy::Row(fault) => row_text(alloc, fault),
+        EventsWhy::Word => String::from_str(alloc, "word"),
+        EventsWhy::Unknown => String::from_str(alloc, "unknown"),
+        EventsWhy::Order => String::from_str(alloc, "order"),
+        EventsWhy::Many => String::from_str(alloc, "many"),
+    }
+}
+
+/// The note on events: the line, and why it is refused.
+pub fn events_note(alloc: Global, line: u32, why: &EventsWhy) -> Result<String, AllocError>
+    ensures { IfOk result (λ text. string_bytes text ≡ events_note line why.now) }
+{
+    let why = events_why(alloc, why)?;
+    format!(in alloc; "ras: events: line {line}: {why}")
+}
+
+/// The note on a program with too many columns.
+pub fn columns_note(alloc: Global, columns: u32) -> Result<String, AllocError>
+    ensures { IfOk result (λ text. string_bytes text ≡ columns_note columns) }
+{
+    format!(in alloc; "ras: program: columns {columns}")
+}
+
+/// The note on a program with too many rows.
+pub fn rows_note(alloc: Global, rows: u32) -> Result<String, AllocError>
+    ensures { IfOk result (λ text. string_bytes text ≡ rows_note rows) }
+{
+    format!(in alloc; "ras: program: rows {rows}")
 }

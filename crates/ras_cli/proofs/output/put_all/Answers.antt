@@ -1,4 +1,4 @@
-use Rattle.std.proofs.Common.{◌≤◌, arith}
+use Rattle.std.proofs.Common.{arith}
 use Rattle.ras_cli.proofs.PiecesLemmas.{goes-on, stops-in, on-ok, on-err}
 use Rattle.ras_cli.proofs.output.put_all.Goals as goal
 

@@ -1,5 +1,4 @@
-use Rattle.std.proofs.Common.{◌≡◌, ◌∙◌, sym, map, List, ℕ}
-use Rattle.ras_inventory.specs.declared.server.Server.{Server}
+use Rattle.std.proofs.Common.{sym, map}
 use Rattle.ras_requests.specs.declared.requests.Reservation.{Reservation}
 use Rattle.ras_texts.proofs.Absent.{none-map, past-end}
 use Rattle.ras_texts.proofs.names.reservation_name.Goals as goal
