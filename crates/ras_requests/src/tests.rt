@@ -4,7 +4,7 @@ use std::test::Fail;
 
 // What is told of requests with these bytes.
 fn requests(alloc: Global, bytes: &[u8]) -> Result<String, AllocError> {
-    if bytes.len() > 10_000 {
+    if bytes.len() > 20_000 {
         return format!(in alloc; "long");
     }
     match read_requests(alloc, bytes) {
@@ -92,6 +92,16 @@ fn faults_of_reservations(rt: HostRuntime) -> Result<(), Fail> {
             r#"GOOD,{"name":"a","need":10000001,"values":{}}"#,
             "place 2: range",
         ),
+        (
+            r#"7,{"name":"b","need":10000001,"values":{}}"#,
+            "place 1: shape",
+        ),
+        (
+            r#"{"name":"b","need":10000001,"values":{}},7"#,
+            "place 1: range",
+        ),
+        ("GOOD,GOOD,7", "place 2: twice"),
+        ("GOOD,7,GOOD", "place 2: shape"),
     ];
     for (list, want) in cases {
         let list = list.replace(rt.alloc(), "GOOD", good)?;
@@ -100,6 +110,49 @@ fn faults_of_reservations(rt: HostRuntime) -> Result<(), Fail> {
         )?;
         let told = requests(rt.alloc(), text.as_bytes())?;
         assert!(rt; told.as_str() == want, "{text}: {told}");
+    }
+    Ok(())
+}
+
+// So many entries, each with its number in the place of `#`.
+fn numbered(alloc: Global, entry: &str, count: u32) -> Result<String, AllocError> {
+    let mut list = String::new(alloc);
+    for i in 0..count {
+        if i > 0 {
+            list.push_str(",")?;
+        }
+        let number = format!(in alloc; "{i}")?;
+        let entry = entry.replace(alloc, "#", number.as_str())?;
+        list.push_str(entry.as_str())?;
+    }
+    Ok(list)
+}
+
+#[test]
+fn lists_that_are_too_long(rt: HostRuntime) -> Result<(), Fail> {
+    let values = r#"{"name":"a","need":1,"values":{MANY}}"#;
+    let near = r#"{"name":"a","need":1,"values":{},"near":[MANY]}"#;
+    let center = r##"{"datacenter":"d#","least":1,"weight":1}"##;
+    let same = r#"{"datacenter":"d","least":1,"weight":1}"#;
+    let cases = [
+        ("MANY", "7", 64, "place 1: shape"),
+        ("MANY", "7", 65, "place 0: many"),
+        (values, r##""t#":1"##, 1000, "1 of 50"),
+        (values, r##""t#":1"##, 1001, "place 1: many"),
+        (values, r##""t#":1001"##, 1001, "place 1: range"),
+        (near, center, 16, "1 of 50"),
+        (near, center, 17, "place 1: many"),
+        (near, same, 16, "place 1: twice"),
+        (near, same, 17, "place 1: many"),
+    ];
+    for (list, entry, count, want) in cases {
+        let many = numbered(rt.alloc(), entry, count)?;
+        let list = list.replace(rt.alloc(), "MANY", many.as_str())?;
+        let text = format!(in rt.alloc();
+            "{{\"format\":1,\"moves\":{{\"take\":1,\"idle\":5,\"busy\":50}},\"reservations\":[{list}]}}"
+        )?;
+        let told = requests(rt.alloc(), text.as_bytes())?;
+        assert!(rt; told.as_str() == want, "{count} of {entry}: {told}");
     }
     Ok(())
 }

@@ -1,0 +1,21 @@
+//! Worked examples of `ras check` over files in memory: the status, the text and the note of each run.
+#![tactic(auto)]
+
+#[cfg(test)]
+mod bounds;
+#[cfg(test)]
+mod certificates;
+#[cfg(test)]
+mod documents;
+#[cfg(test)]
+mod first_path;
+#[cfg(test)]
+mod hostile;
+#[cfg(test)]
+mod limits;
+#[cfg(test)]
+mod racks;
+#[cfg(test)]
+mod readers;
+#[cfg(test)]
+mod runs;
