@@ -11,6 +11,8 @@ mod leaf;
 mod make;
 mod sides;
 mod state;
+#[cfg(test)]
+mod tests;
 
 pub use best_first::search;
 pub use found::{Best, Found};
