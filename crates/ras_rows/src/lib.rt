@@ -1,10 +1,14 @@
-//! Worked examples of `ras check` over files in memory: the status, the text and the note of each run.
+//! Worked examples of `ras check` and `ras solve` over files in memory: the status, the text and the note of each run.
 #![tactic(auto)]
 
 #[cfg(test)]
 mod bounds;
 #[cfg(test)]
+mod budgets;
+#[cfg(test)]
 mod certificates;
+#[cfg(test)]
+mod costs;
 #[cfg(test)]
 mod documents;
 #[cfg(test)]
@@ -18,4 +22,8 @@ mod racks;
 #[cfg(test)]
 mod readers;
 #[cfg(test)]
+mod regions;
+#[cfg(test)]
 mod runs;
+#[cfg(test)]
+mod solving;

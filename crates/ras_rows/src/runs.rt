@@ -84,6 +84,36 @@ fn words(alloc: Global, line: &[&str]) -> Result<List<Word>, Fail> {
     Ok(List::from_vec(words))
 }
 
+/// What a run did: its status, what it printed and its note.
+#[derive(Drop)]
+pub(crate) struct Outcome {
+    pub status: u8,
+    pub printed: String,
+    pub noted: String,
+}
+
+/// A run with these words over these files.
+pub(crate) fn ran(
+    alloc: Global,
+    line: &[&str],
+    texts: Texts<'_>,
+    failing: Failing,
+) -> Result<Outcome, Fail> {
+    let words = words(alloc, line)?;
+    let reads = List::from_vec(vec![in alloc; failing.read]?);
+    let mut shelf = MemoryShelf::new(alloc, files(alloc, texts)?, reads)?;
+    let mut out = sink(alloc, failing.put, failing.taken)?;
+    let mut note = sink(alloc, 0, 0)?;
+    let status = run(alloc, &words, &mut shelf, &mut out, &mut note);
+    let printed = String::from_str(alloc, str::from_utf8(out.written())?)?;
+    let noted = String::from_str(alloc, str::from_utf8(note.written())?)?;
+    Ok(Outcome {
+        status,
+        printed,
+        noted,
+    })
+}
+
 /// What a run with these words does over these files: its status, what it prints and its note, with a bar between two.
 pub(crate) fn told_by(
     alloc: Global,
@@ -91,18 +121,36 @@ pub(crate) fn told_by(
     texts: Texts<'_>,
     failing: Failing,
 ) -> Result<String, Fail> {
-    let words = words(alloc, line)?;
-    let reads = List::from_vec(vec![in alloc; failing.read]?);
-    let mut shelf = MemoryShelf::new(alloc, files(alloc, texts)?, reads)?;
-    let mut out = sink(alloc, failing.put, failing.taken)?;
-    let mut note = sink(alloc, 0, 0)?;
-    let status = run(alloc, &words, &mut shelf, &mut out, &mut note);
-    let printed = str::from_utf8(out.written())?;
-    let noted = str::from_utf8(note.written())?;
-    Ok(format!(in alloc; "{status}|{printed}|{noted}")?)
+    let ran = ran(alloc, line, texts, failing)?;
+    Ok(format!(in alloc; "{}|{}|{}", ran.status, ran.printed, ran.noted)?)
 }
 
 /// The same for `check` where nothing fails.
 pub(crate) fn told(alloc: Global, texts: Texts<'_>) -> Result<String, Fail> {
     told_by(alloc, CHECK.as_slice(), texts, NOTHING)
+}
+
+/// What `solve` prints, and what is told of it.
+#[derive(Drop)]
+pub(crate) struct Solved {
+    /// What it prints.
+    pub document: String,
+    /// Its status and its note, and then what `check` does with the document, with a bar between two.
+    pub told: String,
+}
+
+/// What a run of `solve` with this line does. A second run does the same.
+pub(crate) fn solve(alloc: Global, line: &[&str], texts: Texts<'_>) -> Result<Solved, Fail> {
+    let first = ran(alloc, line, texts, NOTHING)?;
+    let second = ran(alloc, line, texts, NOTHING)?;
+    if first.printed != second.printed || first.status != second.status {
+        return Err(Fail::from("two runs differ"));
+    }
+    let plan = first.printed.as_str();
+    let checked = told(alloc, Texts { plan, ..texts })?;
+    let told = format!(in alloc; "{}|{}|{checked}", first.status, first.noted)?;
+    Ok(Solved {
+        document: first.printed,
+        told,
+    })
 }
