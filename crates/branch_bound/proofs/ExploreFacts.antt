@@ -1,5 +1,5 @@
 -- What a least point of the relaxation says.
-use Rattle.std.proofs.Common.{◌≡◌, ℕ, zero, suc, ◌+◌, ◌-◌, ◌*◌, ◌/◌, ◌<◌, ◌≤◌, ◌∙◌, ap, sym, subst, arith, All, List, [], ◌∷◌, length, slice_index, map, replicate, false, ℤ, pos, ◌*ℤ◌, ◌≤ℤ◌, ◌<ℤ◌, inl, inr, Some}
+use Rattle.std.proofs.Common.{◌≡◌, ℕ, zero, suc, ◌+◌, ◌-◌, ◌*◌, ◌<◌, ◌≤◌, arith, All, List, [], ◌∷◌, length, slice_index, false, ℤ, pos, ◌*ℤ◌, ◌≤ℤ◌, ◌<ℤ◌, inl, inr, Some}
 use Rattle.std.proofs.lemmas.Bool.{cases_lt}
 use Rattle.std.proofs.lemmas.Int.{ints}
 use Rattle.std.proofs.lemmas.Nat.{le-div}
@@ -10,7 +10,7 @@ use Rattle.ip_model.specs.declared.parts.Bounds.{Bounds}
 use Rattle.ip_model.specs.declared.point.Point.{Point}
 use Rattle.ip_model.specs.declared.program.Program.{Program}
 use Rattle.ip_model.specs.Limits.{helper_at, top_of}
-use Rattle.ip_model.specs.Points.{full_box_of, numerator, value_of, value_over, value_up_of, IsBoxOf, IsPointIn, IsPointOf, LiesIn, MeetsLine}
+use Rattle.ip_model.specs.Points.{full_box_of, numerator, value_of, value_over, IsBoxOf, IsPointIn, IsPointOf, MeetsLine}
 use Rattle.ip_model.specs.Sums.{terms_at}
 use Rattle.ip_model.proofs.RuleFacts.{point_range}
 use Rattle.bound_certificate.specs.declared.multipliers.Multipliers.{Multipliers}
@@ -20,9 +20,8 @@ use Rattle.bound_certificate.proofs.WalkSteps.{low_of_full}
 use Rattle.closed_boxes.specs.Helpers.{AgreesAtCounts}
 use Rattle.closed_boxes.specs.Settling.{IsLeastPoint, IsShortRow}
 use Rattle.exact_simplex.specs.Answers.{Certifies}
-use Rattle.branch_bound.specs.declared.leaf.Cut.{Cut}
 use Rattle.branch_bound.specs.Columns.{IsFractional}
-use Rattle.branch_bound.specs.Openings.{CanCut, ShowsWhy}
+use Rattle.branch_bound.specs.Openings.{CanCut}
 
 -- the point is whole in the count columns
 abbrev pub IsWholeAtCounts : Program → Point → Type 0

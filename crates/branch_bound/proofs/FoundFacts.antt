@@ -1,10 +1,9 @@
 -- What a search has found when it is over.
-use Rattle.std.proofs.Common.{◌≡◌, ℕ, ◌+◌, ◌<◌, ◌≤◌, ◌∙◌, ap, sym, refl, subst, arith, List, [], length, Option, Some, None}
+use Rattle.std.proofs.Common.{◌≡◌, ℕ, ◌+◌, ◌<◌, ◌≤◌, ap, refl, subst, arith, List, length, Option, Some, None}
 use Rattle.ip_model.specs.declared.program.Program.{Program}
 use Rattle.ip_model.specs.Points.{value_of}
 use Rattle.bound_certificate.specs.declared.tree.Node.{Node}
 use Rattle.bound_certificate.specs.declared.tree.Least.{Least}
-use Rattle.bound_certificate.specs.declared.tree.Least.TheVariants.{At}
 use Rattle.bound_certificate.specs.Trees.{LiesUnder}
 use Rattle.bound_certificate.proofs.TreeBound.{bound_of_tree_under}
 use Rattle.search_tree.specs.Growth.{IsGrown}

@@ -1,3 +1,4 @@
+pub mod SlotFacts
 pub mod KeyFacts
 pub mod ExploreFacts
 pub mod StateFacts

@@ -1,29 +1,25 @@
 -- What a search keeps as leaves are taken out and split.
-use Rattle.std.proofs.Common.{◌≡◌, ℕ, zero, suc, ◌+◌, ◌*◌, ◌<◌, ◌≤◌, ◌≢◌, ◌++◌, ◌∙◌, ap, sym, refl, subst, arith, List, [], ◌∷◌, length, slice_get, slice_set, slice_index, map, replicate, Option, Some, None, All, IsTrue, true, false, IsSome, IfNone, ◌⊎◌, inl, inr, Bor}
+use Rattle.std.proofs.Common.{◌≡◌, ℕ, zero, suc, ◌+◌, ◌<◌, ◌≤◌, ◌≢◌, ◌++◌, ◌∙◌, ap, sym, refl, subst, arith, List, [], ◌∷◌, length, slice_get, slice_set, slice_index, Option, Some, None, IsTrue, false, IsSome, IfNone, inl, inr, Bor}
 use Rattle.std.proofs.lemmas.Bool.{cases_eq, cases_lt}
-use Rattle.std.proofs.lemmas.Grind.{common_steps}
 use Rattle.std.proofs.lemmas.List.{append_assoc, length-append, length-set, get_or-set_other}
 use Rattle.std.proofs.lemmas.Option.{slice_get_within, same_Some}
 use Rattle.std.specs.Option.{option_copied}
 use Rattle.ip_model.specs.declared.parts.Bounds.{Bounds}
-use Rattle.ip_model.specs.declared.parts.Column.{Column}
 use Rattle.ip_model.specs.declared.point.Point.{Point}
 use Rattle.ip_model.specs.declared.program.Program.{Program}
-use Rattle.ip_model.specs.Choices.{choices_of}
-use Rattle.ip_model.specs.Limits.{helper_at, top_of}
-use Rattle.ip_model.specs.Points.{full_box_of, value_of, IsBoxOf, IsWholePoint}
+use Rattle.ip_model.specs.Limits.{helper_at}
+use Rattle.ip_model.specs.Points.{full_box_of}
 use Rattle.bound_certificate.specs.declared.multipliers.Multipliers.{Multipliers}
 use Rattle.bound_certificate.specs.declared.tree.Node.{Node}
 use Rattle.bound_certificate.specs.declared.tree.Node.TheVariants.{Split, Bound, Refute}
 use Rattle.bound_certificate.specs.declared.tree.Least.TheVariants as least
-use Rattle.bound_certificate.specs.Bound.{leaf_bound, RowsInRange}
-use Rattle.bound_certificate.specs.Shown.{Shows, IsShown, AreShown}
+use Rattle.bound_certificate.specs.Bound.{leaf_bound}
+use Rattle.bound_certificate.specs.Shown.{IsShown, AreShown}
 use Rattle.bound_certificate.specs.Trees.{low_side, high_side, bound_of_tree}
 use Rattle.bound_certificate.proofs.WalkSteps.{low_of_full}
 use Rattle.search_tree.specs.Boxes.{box_at}
-use Rattle.search_tree.specs.Growth.{split_nodes, IsLeafOf, CanSplit, IsGrown}
-use Rattle.search_tree.specs.Leaves.{IsLeafAt, multipliers_at, multipliers_of}
-use Rattle.search_tree.specs.Ways.{leaves_of, ways}
+use Rattle.search_tree.specs.Growth.{split_nodes, IsLeafOf, CanSplit}
+use Rattle.search_tree.specs.Leaves.{IsLeafAt}
 use Rattle.search_tree.proofs.Grow.{get_written, get_other, get_added, some_there, one_leaf, grow, length-split, box_kept, low_child_box, high_child_box, leaves_few, two_ways}
 use Rattle.search_tree.proofs.LeafFacts.{least_is_bound, shown_each}
 use Rattle.search_tree.proofs.Nested.{low_side_bound, high_side_bound}
@@ -34,7 +30,7 @@ use Rattle.branch_bound.specs.declared.make.Made.{Made}
 use Rattle.branch_bound.specs.Keys.{IsLeastOpen}
 use Rattle.branch_bound.specs.Making.{IsNoLess, IsMade}
 use Rattle.branch_bound.specs.Openings.{HasWithin, Improves, HasFullHelpers, CanCut, ShowsWhy, IsCutOf, IsOpenAt, IsKept}
-use Rattle.branch_bound.specs.Searching.{IsSearch, IsPopped, IsNear, IsFull}
+use Rattle.branch_bound.specs.Searching.{IsSearch, IsNear, IsFull}
 
 -- ---- boxes
 

@@ -2,7 +2,6 @@
 use Rattle.std.specs.Prelude.{◌≤◌}
 use Rattle.ip_model.specs.declared.parts.Bounds.{Bounds}
 use Rattle.ip_model.specs.declared.program.Program.{Program}
-use Rattle.bound_certificate.specs.declared.multipliers.Multipliers.{Multipliers}
 use Rattle.bound_certificate.specs.Bound.{leaf_bound, Refutes, RowsInRange}
 use Rattle.branch_bound.specs.declared.explore.Explored.{Explored}
 use Rattle.branch_bound.specs.declared.explore.Explored.TheVariants.{Refuted, Solved, Divided}

@@ -1,4 +1,5 @@
 pub mod Keys
+pub mod Slots
 pub mod Columns
 pub mod Openings
 pub mod Exploring

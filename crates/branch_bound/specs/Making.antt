@@ -1,5 +1,5 @@
 -- New leaves.
-use Rattle.std.specs.Prelude.{ℕ, ◌≤◌, Option, Some, None, ⊤}
+use Rattle.std.specs.Prelude.{◌≤◌, Option, Some, None, ⊤}
 use Rattle.ip_model.specs.declared.parts.Bounds.{Bounds}
 use Rattle.ip_model.specs.declared.program.Program.{Program}
 use Rattle.bound_certificate.specs.declared.multipliers.Multipliers.{Multipliers}

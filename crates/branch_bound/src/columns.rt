@@ -42,34 +42,30 @@ pub fn wide_column(program: &Program, bounds: &Bounds) -> Option<u32>
     None
 }
 
-/// How far a point is from a whole number in a column, over its denominator. A helper is at 0.
-fn distance(program: &Program, point: &Point, column: u32) -> u64
+/// Whether a column is a count column in which the point is between two whole numbers.
+fn is_fractional(program: &Program, point: &Point, column: u32) -> bool
     requires size { length point.now.part ≡ length program.now.columns }
     requires there { column < length program.now.columns }
-    ensures some { 0 < result → IsFractional program.now point.now column }
-    ensures none { result ≡ 0 → helper_at program.now.columns column ≡ false → slice_index point.now.part column ≡ 0 }
+    ensures between { IsTrue result → IsFractional program.now point.now column }
+    ensures whole { result ≡ false → helper_at program.now.columns column ≡ false → slice_index point.now.part column ≡ 0 }
 {
     if !is_count(program, column) {
-        return 0;
+        return false;
     }
-    let part = point.part.as_slice()[column as usize];
-    part.min(point.den - part)
+    point.part.as_slice()[column as usize] > 0
 }
 
-/// The count column in which the point is furthest from a whole number.
-pub fn most_fractional(program: &Program, point: &Point) -> Option<u32>
+/// The first count column in which the point is between two whole numbers. Columns go class by class, so a branch settles one class after
+/// the other, which closed more gaps than to take the most fractional column.
+pub fn fractional_column(program: &Program, point: &Point) -> Option<u32>
     requires { length point.now.part ≡ length program.now.columns }
     ensures some { IfSome result (λ column. IsFractional program.now point.now column) }
     ensures none { IfNone result ((j : ℕ) → j < length program.now.columns → helper_at program.now.columns j ≡ false → slice_index point.now.part j ≡ 0) }
 {
-    let mut chosen: Option<u32> = None;
-    let mut furthest = 0;
     for column in 0..program.columns.len() {
-        let far = distance(program, point, column);
-        if furthest < far {
-            chosen = Some(column);
-            furthest = far;
+        if is_fractional(program, point, column) {
+            return Some(column);
         }
     }
-    chosen
+    None
 }

@@ -8,7 +8,7 @@ ghost use Rattle.branch_bound.specs.Columns.{IsWideColumn};
 ghost use Rattle.branch_bound.specs.Exploring.{IsExplored};
 ghost use Rattle.branch_bound.specs.Openings.{HasFullHelpers};
 
-use crate::columns::{most_fractional, wide_column};
+use crate::columns::{fractional_column, wide_column};
 use crate::found::Best;
 use crate::leaf::Cut;
 use bound_certificate::Multipliers;
@@ -102,7 +102,7 @@ fn divided(
     requires least { Certifies program.now bounds.now point duals }
     ensures { IfOk result (λ explored. IsExplored program.now bounds.now explored) }
 {
-    let Some(column) = most_fractional(program, &point) else {
+    let Some(column) = fractional_column(program, &point) else {
         return solved(alloc, program, bounds, &point, duals);
     };
     let at = point.whole.as_slice()[column as usize];

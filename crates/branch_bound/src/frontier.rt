@@ -3,31 +3,34 @@ ghost use Rattle.std.specs.Prelude.{◌≡◌, ℕ, ◌+◌, ◌<◌, ◌≤◌,
 ghost use Rattle.branch_bound.specs.declared.leaf.OpenLeaf.{OpenLeaf};
 ghost use Rattle.branch_bound.specs.Keys.{IsLeastOpen};
 
-use crate::leaf::OpenLeaf;
+use crate::leaf::{NumberedLeaf, OpenLeaf};
+use slab::Slab;
 use std::alloc::{AllocError, Global};
 use std::cmp::Reverse;
 use std::collections::BinaryHeap;
 use std::marker::Model;
 
-/// For each node what is open there, seen as that list, and the keys of the open ones by bound and number.
+/// For each node what is open there, seen as that list. The open leaves stand in slots, so that the memory of those that were taken out is
+/// used again, and each has a key of its bound, its node's number and its slot.
 #[derive(Drop)]
 pub struct Frontier {
-    leaves: Vec<Option<OpenLeaf>>,
-    keys: BinaryHeap<Reverse<(u64, u32)>>,
+    slots: Slab<NumberedLeaf>,
+    keys: BinaryHeap<Reverse<(u64, u32, usize)>>,
+    nodes: u32,
 }
 
 impl Model for Frontier {
-    ghost use Rattle.std.specs.Prelude.{List, Option, length, ◌<◌, ◌^◌};
+    ghost use Rattle.std.specs.Prelude.{List, Option, ◌<◌, ◌^◌};
     ghost use Rattle.std.specs.BinaryHeap.{heap_items, IsHeap};
-    ghost use Rattle.std.specs.Coded.{coded_list};
     ghost use Rattle.branch_bound.specs.declared.leaf.OpenLeaf.{OpenLeaf};
     ghost use Rattle.branch_bound.specs.Keys.{HoldsKeys, key_order};
+    ghost use Rattle.branch_bound.specs.Slots.{IsNumbered, leaves_of};
 
     ghost Value = { List (Option OpenLeaf) };
 
-    ghost view = { λ f. f.leaves.items };
+    ghost view = { λ f. leaves_of f.slots.slots f.nodes };
 
-    ghost invariant = { λ f. (IsHeap key_order (heap_items f.keys)) × HoldsKeys f.leaves.items (heap_items f.keys) × (length f.leaves.items < 2 ^ 32) };
+    ghost invariant = { λ f. (IsHeap key_order (heap_items f.keys)) × HoldsKeys f.slots.slots (heap_items f.keys) × IsNumbered f.slots.slots f.nodes × (f.nodes < 2 ^ 32) };
 }
 
 impl Frontier {
@@ -36,8 +39,9 @@ impl Frontier {
         ensures { result ≡ [] }
     {
         Frontier {
-            leaves: Vec::new(alloc),
+            slots: Slab::new(alloc),
             keys: BinaryHeap::new(alloc),
+            nodes: 0,
         }
     }
 
@@ -46,15 +50,13 @@ impl Frontier {
         requires { length self.old < 2 ^ 31 }
         ensures { OnOk result (self.new ≡ self.old ++ Some leaf ∷ []) }
     {
-        let key = Reverse((leaf.bound, self.leaves.len() as u32));
-        self.leaves.push(Some(leaf))?;
-        match self.keys.push(key) {
-            Ok(()) => Ok(()),
-            Err(refused) => {
-                let _leaf = self.leaves.pop();
-                Err(AllocError::from(refused))
-            }
-        }
+        self.slots.reserve(1)?;
+        let node = self.nodes;
+        let key = Reverse((leaf.bound, node, self.slots.vacant_key()));
+        self.keys.push(key)?;
+        self.slots.insert_reserved(NumberedLeaf { node, leaf });
+        self.nodes = node + 1;
+        Ok(())
     }
 
     /// Adds the next node.
@@ -65,7 +67,7 @@ impl Frontier {
         if let Some(leaf) = leaf {
             return self.push_open(leaf);
         }
-        self.leaves.push(None)?;
+        self.nodes += 1;
         Ok(())
     }
 
@@ -77,8 +79,8 @@ impl Frontier {
     {
         match self.keys.pop() {
             None => None,
-            Some(Reverse((_bound, node))) => {
-                let leaf = self.leaves[node as usize].take().unwrap();
+            Some(Reverse((_bound, _node, slot))) => {
+                let NumberedLeaf { node, leaf } = self.slots.remove(slot);
                 Some((node, leaf))
             }
         }

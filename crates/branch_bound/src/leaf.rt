@@ -18,3 +18,10 @@ pub struct OpenLeaf {
     pub bounds: Bounds,
     pub cut: Option<Cut>,
 }
+
+/// An open leaf with its node's number.
+#[derive(Debug, Drop)]
+pub struct NumberedLeaf {
+    pub node: u32,
+    pub leaf: OpenLeaf,
+}

@@ -1,4 +1,4 @@
-use Rattle.std.proofs.Common.{ℕ, List, ap, sym, subst, Some, slice_index}
+use Rattle.std.proofs.Common.{ℕ, List, sym, subst, Some, slice_index}
 use Rattle.bound_certificate.specs.Bound.{leaf_bound}
 use Rattle.bound_certificate.specs.Shown.{Shows}
 use Rattle.branch_bound.specs.Openings.{CanCut}

@@ -1,13 +1,22 @@
-use Rattle.std.proofs.Common.{◌≡◌, ap, sym, subst, arith, List, [], ◌∷◌, ◌++◌, Option, None, length, heap_items}
-use Rattle.std.proofs.lemmas.List.{length_push}
+use Rattle.std.proofs.Common.{rules, ◌≡◌, ◌∙◌, ◌++◌, ap, arith, List, [], ◌∷◌, Option, None, length}
 use Rattle.branch_bound.specs.declared.leaf.OpenLeaf.{OpenLeaf}
-use Rattle.branch_bound.specs.Keys.{HoldsKeys}
-use Rattle.branch_bound.proofs.KeyFacts.{holds_closed}
+use Rattle.branch_bound.proofs.SlotFacts.{length-leaves, numbered_more, leaves_more}
 use Rattle.branch_bound.proofs.frontier.Frontier.push.Goals as goal
 
-pub invariant_of-self-2 : goal.invariant_of-self-2
-invariant_of-self-2 c = (
+pub overflow_add-self : goal.overflow_add-self
+overflow_add-self c = omega (arith, length-leaves c.self.inside.slots.slots c.self.inside.nodes, ap length c.self.view_is, c.requires)
+
+pub invariant_of-self : goal.invariant_of-self
+invariant_of-self c = (
   c.self.invariant.0,
-  subst (λ (ls : List (Option OpenLeaf)). HoldsKeys ls (heap_items c.self.inside.keys)) (sym c.in_ok-push.ensures.items) (holds_closed c.self.inside.leaves.items (heap_items c.self.inside.keys) c.self.invariant.1),
-  omega (arith, ap length c.in_ok-push.ensures.items, length_push c.self.inside.leaves.items None, c.requires, ap length c.self.view_is),
+  c.self.invariant.1,
+  numbered_more c.self.inside.slots.slots c.self.inside.nodes c.self.invariant.2,
+  omega (arith, length-leaves c.self.inside.slots.slots c.self.inside.nodes, ap length c.self.view_is, c.requires),
 )
+
+pub returns : goal.returns
+returns c =
+    let closed : None ≡ c.args.leaf = search rules in
+    leaves_more c.self.inside.slots.slots c.self.inside.nodes c.self.invariant.2
+    ∙ ap (λ (ls : List (Option OpenLeaf)). ls ++ None ∷ []) c.self.view_is
+    ∙ ap (λ (l : Option OpenLeaf). c.args.self.now ++ l ∷ []) closed

@@ -1,8 +1,0 @@
-use Rattle.std.proofs.Common.{refl, ◌∙◌}
-use Rattle.branch_bound.proofs.tests.no_columns.Goals as goal
-
-pub invariant_of-result : goal.invariant_of-result
-invariant_of-result c =
-    let columns = c.from_vec.ensures ∙ c.in_ok-columns.ensures.items in
-    let rows = c.from_vec-2.ensures ∙ c.in_ok-rows.ensures.items in
-    record { kept = rw (columns, rows) refl }
