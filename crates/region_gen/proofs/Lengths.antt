@@ -69,15 +69,15 @@ region_length line number size few each =
     (λ i h. pieces_length (λ place. line (draw_of number i place) i place) 25 0 4 (λ j k. each (draw_of number i j) i j (omega arith) (omega arith)))
 
 -- a head and the lines of up to 40 switchboards
-text_small : (head lines : List ℕ) (size : ℕ) → length head ≤ 50 → size ≤ 40 → length lines ≤ 100 * size → length (head ++ lines) < 4294967296
+text_small : (head lines : List ℕ) (size : ℕ) → length head ≤ 50 → size ≤ 40 → length lines ≤ 100 * size → length (head ++ lines) ≤ 8192
 text_small head lines size h few k = omega (arith, h, few, k, length-append head lines)
 
-pub inventory-small : (number size : ℕ) → size ≤ 40 → length (inventory_text number size) < 4294967296
+pub inventory-small : (number size : ℕ) → size ≤ 40 → length (inventory_text number size) ≤ 8192
 inventory-small number size few =
     text_small (codes "server,type,rack,switchboard,datacenter\n") (region_lines inventory_line number size) size (lit≤ tt) few
     (region_length inventory_line number size (omega (arith, few)) inventory_length)
 
-pub bindings-small : (number size : ℕ) → size ≤ 40 → length (bindings_text number size) < 4294967296
+pub bindings-small : (number size : ℕ) → size ≤ 40 → length (bindings_text number size) ≤ 8192
 bindings-small number size few =
     text_small (codes "server,reservation,busy,up\n") (region_lines bindings_line number size) size (lit≤ tt) few
     (region_length bindings_line number size (omega (arith, few)) bindings_length)
@@ -89,13 +89,13 @@ weight_length size = at (size % 2 == 0)
     at true = three_digits 1 (lit< tt)
     at false = three_digits 0 (lit< tt)
 
-parts_small : (a b c d e : List ℕ) → length a ≤ 120 → length b ≤ 3 → length c ≤ 50 → length d ≤ 3 → length e ≤ 100 → length (a ++ (b ++ (c ++ (d ++ e)))) < 4294967296
+parts_small : (a b c d e : List ℕ) → length a ≤ 120 → length b ≤ 3 → length c ≤ 50 → length d ≤ 3 → length e ≤ 100 → length (a ++ (b ++ (c ++ (d ++ e)))) ≤ 8192
 parts_small a b c d e p q r s t =
     let all : length (a ++ (b ++ (c ++ (d ++ e)))) ≤ 120 + (3 + (50 + (3 + 100))) =
     three_length a b (c ++ (d ++ e)) 120 3 (50 + (3 + 100)) p q (three_length c d e 50 3 100 r s t) in
     omega (arith, all)
 
-pub requests-small : (size : ℕ) → size ≤ 40 → length (requests_text size) < 4294967296
+pub requests-small : (size : ℕ) → size ≤ 40 → length (requests_text size) ≤ 8192
 requests-small size few =
     parts_small (codes "{\"format\":1,\"moves\":{\"busy\":20,\"idle\":3,\"take\":1},\"reservations\":[{\"name\":\"web\",\"need\":") (decimal (web_need size))
     (codes ",\"rack_limit\":10,\"rack_weight\":") (decimal (web_rack_weight size))

@@ -1,10 +1,10 @@
-use Rattle.std.proofs.Common.{◌≡◌, ◌<◌, ◌∙◌, ℕ, List, length, sym, ap, subst}
+use Rattle.std.proofs.Common.{◌≡◌, ◌≤◌, ◌<◌, ◌∙◌, ℕ, List, length, sym, ap, subst, arith}
 use Rattle.region_gen.specs.Files.{inventory_text, bindings_text, requests_text}
 use Rattle.region_gen.proofs.Lengths.{inventory-small, bindings-small, requests-small}
 use Rattle.region_gen.proofs.samples.sample.Goals as goal
 
-small : (xs ys : List ℕ) → xs ≡ ys → length ys < 4294967296 → length xs < 4294967296
-small xs ys same h = subst (λ (zs : List ℕ). length zs < 4294967296) (sym same) h
+small : (xs ys : List ℕ) → xs ≡ ys → length ys ≤ 8192 → length xs < 4294967296
+small xs ys same h = let least : length ys < 4294967296 = omega (arith, h) in subst (λ (zs : List ℕ). length zs < 4294967296) (sym same) least
 
 pub from_vec-requires : goal.from_vec-requires
 from_vec-requires c =

@@ -1,0 +1,9 @@
+pub mod PlainRows
+pub mod Names
+pub mod Texts
+pub mod Inventory
+pub mod Requests
+pub mod Bindings
+pub mod FilesRead
+pub mod ProgramSizes
+pub mod Fits

@@ -1,0 +1,3 @@
+pub mod Lines
+pub mod Samples
+pub mod Laws
