@@ -7,6 +7,7 @@ mod check;
 mod inputs;
 mod laws;
 mod moves;
+mod sampling;
 mod solving;
 
 pub use all::{CaseFiles, Inputs};
@@ -15,4 +16,5 @@ pub use check::{check_answer, read_inputs};
 pub use inputs::InputFault;
 pub use laws::solved_is_checked;
 pub use moves::move_answer;
+pub use sampling::sample_answer;
 pub use solving::{Options, solve_answer};

@@ -26,8 +26,8 @@ pub struct Options {
     pub racks: u32,
 }
 
-// How a run ends that prints a document with such an answer.
-fn ending_at(answer: plan_document::Answer) -> Ending
+/// How a run ends that prints a document with such an answer.
+pub(crate) fn ending_at(answer: plan_document::Answer) -> Ending
     ensures { result ≡ ending_at answer }
 {
     match answer {

@@ -128,3 +128,8 @@ within-most named i d n h all fits =
     let most = (get_or named i d).most in
     let limited_here = or-all (has_limit (get_or named i d)) (list_all has_limit named) (list_all_at has_limit named i d h) all in
     omega (arith, leb-true most 67108864 (second (nat_le 16777216 most) (nat_le most 67108864) limited_here))
+
+-- a list of which nothing is mapped
+pub none-mapped : {X Y : Type 0} (f : X → Y) (xs : List X) → map f xs ≡ [] → xs ≡ []
+none-mapped f [] e = refl
+none-mapped f (x ∷ xs) e = absurd cc

@@ -1,5 +1,5 @@
 -- What words ask for, of the files that they name.
-use Rattle.std.specs.Prelude.{ℕ, ◌≡◌, ◌<◌, ⊤, Bool, true, false, nat_le, List, [], ◌∷◌, length, Option, Some, None, IsSome, Result, Ok, Err, ◌⊎◌, if◌then◌else◌}
+use Rattle.std.specs.Prelude.{ℕ, ◌≡◌, ◌<◌, ⊤, nat_le, List, [], ◌∷◌, length, Option, Some, None, IsSome, Result, Ok, Err, ◌⊎◌, if◌then◌else◌}
 use Rattle.ras_outside.specs.Causes.{Rose}
 use Rattle.ras_outside.specs.Held.{Files, file_at}
 use Rattle.ras_words.specs.Rows.{Refusal}
@@ -10,20 +10,14 @@ use Rattle.ras_words.specs.declared.command.Command.TheVariants as command
 use Rattle.ras_answers.specs.Answered.{Answered}
 use Rattle.ras_answers.specs.Check.{CheckAnswers}
 use Rattle.ras_answers.specs.Move.{MoveAnswers}
+use Rattle.ras_answers.specs.Sample.{SampleAnswers}
 use Rattle.ras_answers.specs.Solve.{SolveAnswers}
 use Rattle.ras_answers.specs.declared.solving.Options.{Options}
-
--- the commands that are served
-abbrev pub is_served : Command → Bool
-is_served (command.Check words) = true
-is_served (command.Solve words) = true
-is_served (command.Move words) = true
-is_served (command.Sample words) = false
 
 -- what words ask for, where they are taken
 abbrev pub asked_in : Result Command Refusal → Option Command
 asked_in (Err _) = None
-asked_in (Ok c) = if is_served c then Some c else None
+asked_in (Ok c) = Some c
 
 abbrev pub asked_of : List (List ℕ) → Option Command
 asked_of words = asked_in (command_of words)
@@ -50,6 +44,7 @@ abbrev pub Answers : Command → List (List ℕ) → Answered → Type 0
 Answers (command.Check words) (inventory ∷ requests ∷ bindings ∷ plan ∷ []) a = CheckAnswers inventory requests bindings plan a
 Answers (command.Solve words) (inventory ∷ requests ∷ bindings ∷ []) a = SolveAnswers inventory requests bindings (options_of words) a
 Answers (command.Move words) (inventory ∷ requests ∷ bindings ∷ plan ∷ events ∷ []) a = MoveAnswers inventory requests bindings plan events words.at_once a
+Answers (command.Sample words) [] a = SampleAnswers words.number words.size a
 Answers c texts a = ⊥
 
 -- the bytes of a file that is held and not too long

@@ -1,24 +1,15 @@
-ghost use Rattle.std.specs.Prelude.{◌≡◌, ◌≤◌, ◌*◌, ◌^◌, All, IfOk, length, map, true};
+ghost use Rattle.std.specs.Prelude.{◌≡◌, ◌≤◌, ◌*◌, ◌^◌, All, IfOk, length, map};
 ghost use Rattle.ras_words.specs.Words.{InRanges};
 ghost use Rattle.ras_answers.specs.Answered.{seen};
 ghost use Rattle.ras_answers.specs.Check.{CheckAnswers};
 ghost use Rattle.ras_answers.specs.Move.{MoveAnswers};
+ghost use Rattle.ras_answers.specs.Sample.{SampleAnswers};
 ghost use Rattle.ras_answers.specs.Solve.{SolveAnswers};
-ghost use Rattle.ras_cli.specs.Asked.{Answers, files_of, is_served, options_of};
+ghost use Rattle.ras_cli.specs.Asked.{Answers, files_of, options_of};
 
-use ras_answers::{Answer, Options, check_answer, move_answer, solve_answer};
+use ras_answers::{Answer, Options, check_answer, move_answer, sample_answer, solve_answer};
 use ras_words::{Command, SolveWords};
 use std::alloc::{AllocError, Global};
-
-/// Whether a command is served.
-pub fn is_served(command: &Command) -> bool
-    ensures { result ≡ is_served command.now }
-{
-    match command {
-        Command::Check(_) | Command::Solve(_) | Command::Move(_) => true,
-        Command::Sample(_) => false,
-    }
-}
 
 // What the words ask of a solution.
 fn options_of(words: &SolveWords) -> Options
@@ -33,7 +24,6 @@ fn options_of(words: &SolveWords) -> Options
 
 /// What a command answers to the bytes of its files.
 pub fn answer_of(alloc: Global, command: &Command, files: &[Vec<u8>]) -> Result<Answer, AllocError>
-    requires served { is_served command.now ≡ true }
     requires ranges { InRanges command.now }
     requires each { length files.now ≡ length (files_of command.now) }
     requires small { All (λ f. length f.items ≤ 64 * 2 ^ 20) files.now }
@@ -63,6 +53,6 @@ pub fn answer_of(alloc: Global, command: &Command, files: &[Vec<u8>]) -> Result<
             files[4].as_slice(),
             words.at_once,
         ),
-        Command::Sample(_) => unreachable!(),
+        Command::Sample(words) => sample_answer(alloc, words.number, words.size),
     }
 }

@@ -1,4 +1,4 @@
-ghost use Rattle.std.specs.Prelude.{◌≡◌, ◌≤◌, ◌*◌, ◌^◌, All, IsErrOf, IfOk, IsTrue, length, map};
+ghost use Rattle.std.specs.Prelude.{◌≡◌, ◌≤◌, ◌*◌, ◌^◌, [], All, IfErr, IsErrOf, IfOk, IsTrue, length, map};
 ghost use Rattle.std.specs.List.{list_all};
 ghost use Rattle.ras_outside.specs.Causes.{Rose, RoseBy};
 ghost use Rattle.ras_cli.specs.Asked.{BreaksHeld, HasTexts, LongerHeld};
@@ -32,6 +32,8 @@ pub fn read_files<S: Shelf>(
     ensures long { IsErrOf result ShelfFault.Long → Rose (S.over shelf.old) (S.over shelf.new) }
     ensures taken { IsErrOf result ShelfFault.Long → RoseBy 16777217 (S.taken shelf.old) (S.taken shelf.new) }
     ensures longer { IsErrOf result ShelfFault.Long → LongerHeld (S.held shelf.old) (map limited named.now) }
+    ensures unread { named.now ≡ [] → shelf.new ≡ shelf.old }
+    ensures whole { named.now ≡ [] → IfErr result (λ fault. fault ≡ ShelfFault.Memory) }
 {
     let mut files = Vec::new(alloc);
     for file in named {

@@ -1,13 +1,13 @@
-ghost use Rattle.std.specs.Prelude.{◌≡◌, ◌≢◌, ◌≤◌, ◌⊎◌, codes, true, false, None, Some, Err, IfOk, IsErrOf};
+ghost use Rattle.std.specs.Prelude.{◌≡◌, ◌≢◌, ◌≤◌, ◌⊎◌, [], codes, true, false, None, Some, Err, IfErr, IfOk, IsErrOf};
 ghost use Rattle.std.specs.Io.KnownBytes.{Appends};
 ghost use Rattle.ras_outside.specs.Causes.{Rose, RoseBy, AppendsSome};
 ghost use Rattle.ras_words.specs.Rows.{Refused};
 ghost use Rattle.ras_words.specs.Words.{InRanges, command_of};
 ghost use Rattle.ras_answers.specs.Answered.{seen};
-ghost use Rattle.ras_cli.specs.Asked.{BreaksHeld, LongerHeld, asked_of, files_asked, files_of, is_served};
+ghost use Rattle.ras_cli.specs.Asked.{BreaksHeld, LongerHeld, asked_of, files_asked, files_of};
 ghost use Rattle.ras_cli.specs.Runs.{AtAnswer, Tells, is_printed, note_of, status_of, text_of};
 
-use crate::answers::{answer_of, is_served};
+use crate::answers::answer_of;
 use crate::deliver::deliver;
 use crate::files::read_files;
 use crate::named::named_files;
@@ -24,7 +24,6 @@ fn answer_at<S: Shelf>(
     command: &Command,
     shelf: &mut S,
 ) -> Result<Answer, ShelfFault>
-    requires served { is_served command.now ≡ true }
     requires ranges { InRanges command.now }
     ensures answer { IfOk result (λ a. AtAnswer (S.held shelf.old) (Some command.now) (λ answer. seen a ≡ answer)) }
     ensures failed { IsErrOf result ShelfFault.Failed → Rose (S.faults shelf.old) (S.faults shelf.new) }
@@ -32,6 +31,8 @@ fn answer_at<S: Shelf>(
     ensures long { IsErrOf result ShelfFault.Long → Rose (S.over shelf.old) (S.over shelf.new) }
     ensures taken { IsErrOf result ShelfFault.Long → RoseBy 16777217 (S.taken shelf.old) (S.taken shelf.new) }
     ensures longer { IsErrOf result ShelfFault.Long → LongerHeld (S.held shelf.old) (files_of command.now) }
+    ensures unread { files_of command.now ≡ [] → shelf.new ≡ shelf.old }
+    ensures whole { files_of command.now ≡ [] → IfErr result (λ fault. fault ≡ ShelfFault.Memory) }
 {
     let Ok(named) = named_files(alloc, command) else {
         return Err(ShelfFault::Memory);
@@ -51,7 +52,6 @@ fn run_command<S: Shelf, K: Sink, E: Sink>(
     out: &mut K,
     note: &mut E,
 ) -> u8
-    requires served { is_served command.now ≡ true }
     requires ranges { InRanges command.now }
     ensures printed { is_printed result ≡ true → AtAnswer (S.held shelf.old) (Some command.now)
         (λ a. (status_of a ≡ result) × Appends (K.written out.old) (K.written out.new) (text_of a)) }
@@ -67,6 +67,8 @@ fn run_command<S: Shelf, K: Sink, E: Sink>(
     ensures long { result ≡ 8 → Rose (S.over shelf.old) (S.over shelf.new) }
     ensures taken { result ≡ 8 → RoseBy 16777217 (S.taken shelf.old) (S.taken shelf.new) }
     ensures longer { result ≡ 8 → LongerHeld (S.held shelf.old) (files_of command.now) }
+    ensures unread { files_of command.now ≡ [] → shelf.new ≡ shelf.old }
+    ensures alone { files_of command.now ≡ [] → (result ≢ 3) × (result ≢ 6) × (result ≢ 8) }
     ensures told_failed { result ≡ 6 → Tells (E.faults note.old) (E.faults note.new) (E.written note.old) (E.written note.new) (codes "ras: read failed\n") }
     ensures told_write { result ≡ 7 → Tells (E.faults note.old) (E.faults note.new) (E.written note.old) (E.written note.new) (codes "ras: write failed\n") }
     ensures told_long { result ≡ 8 → Tells (E.faults note.old) (E.faults note.new) (E.written note.old) (E.written note.new) (codes "ras: file too long\n") }
@@ -83,15 +85,16 @@ fn run_command<S: Shelf, K: Sink, E: Sink>(
 ///
 /// | Status | Comes |
 /// |---|---|
-/// | 0 | the command did what was asked, and its text is printed; for `solve` the document of a plan, whose gaps are at most the wanted one |
+/// | 0 | the command did what was asked, and its text is printed; for `solve` the document of a plan, whose gaps are at most the wanted one; for `sample` the lines of such a document, the wanted gap being 0 |
 /// | 1 | `check`, `move`: the files are valid and the document is not accepted; the reason is printed. `move`: the document is accepted and has no assignment; `no target` is printed |
 /// | 2 | the words are not taken; a text for the user is on `note` |
 /// | 3 | a file is not valid; its first fault is on `note`. `solve`: the program of the region is too large; its size is on `note` |
-/// | 4, 5 | `solve`: no assignment is allowed; the budget is spent. The document that shows it is printed |
+/// | 4, 5 | `solve`, `sample`: no assignment is allowed; the budget is spent. `solve` prints the document that shows it, `sample` its lines |
 /// | 6, 7, 8 | a read failed; a write failed, and a front of the text went out; a file is too long |
 /// | 9 | memory ran out |
 ///
-/// Files are read in the order of the words, then read as what they say in that order. A text is made before its first
+/// Files are read in the order of the words, then read as what they say in that order. Where the words name no file, as
+/// those of `sample`, the shelf is left alone, and the status is never 3, 6 or 8. A text is made before its first
 /// put, and goes out in pieces of 4,096 bytes. A message goes to `note` in one put, whose fault changes no status.
 pub fn run<S: Shelf, K: Sink, E: Sink>(
     alloc: Global,
@@ -118,6 +121,8 @@ pub fn run<S: Shelf, K: Sink, E: Sink>(
     ensures long { result ≡ 8 → Rose (S.over shelf.old) (S.over shelf.new) }
     ensures taken { result ≡ 8 → RoseBy 16777217 (S.taken shelf.old) (S.taken shelf.new) }
     ensures longer { result ≡ 8 → LongerHeld (S.held shelf.old) (files_asked (asked_of words.now)) }
+    ensures unread { files_asked (asked_of words.now) ≡ [] → shelf.new ≡ shelf.old }
+    ensures alone { files_asked (asked_of words.now) ≡ [] → (result ≢ 3) × (result ≢ 6) × (result ≢ 8) }
     ensures told_failed { result ≡ 6 → Tells (E.faults note.old) (E.faults note.new) (E.written note.old) (E.written note.new) (codes "ras: read failed\n") }
     ensures told_write { result ≡ 7 → Tells (E.faults note.old) (E.faults note.new) (E.written note.old) (E.written note.new) (codes "ras: write failed\n") }
     ensures told_long { result ≡ 8 → Tells (E.faults note.old) (E.faults note.new) (E.written note.old) (E.written note.new) (codes "ras: file too long\n") }
@@ -125,8 +130,8 @@ pub fn run<S: Shelf, K: Sink, E: Sink>(
     ensures known { (is_printed result ≡ true) ⊎ (result ≡ 2) ⊎ (result ≡ 3) ⊎ (result ≡ 6) ⊎ (result ≡ 7) ⊎ (result ≡ 8) ⊎ (result ≡ 9) }
 {
     match read_words(alloc, words.as_slice()) {
-        Ok(command) if is_served(&command) => run_command(alloc, &command, shelf, out, note),
-        Ok(_) | Err(WordsFault::NoCommand) => {
+        Ok(command) => run_command(alloc, &command, shelf, out, note),
+        Err(WordsFault::NoCommand) => {
             tell(note, "ras: bad words\n");
             2
         }

@@ -1,12 +1,14 @@
-//! The texts that the program prints: verdicts on documents, and the notes on files that are not valid.
+//! The texts that the program prints: verdicts on documents, solved samples, and the notes on files that are not valid.
 #![tactic(auto)]
 
 mod names;
 mod notes;
 mod reasons;
+mod samples;
 mod verdicts;
 
 pub use notes::{
     bindings_note, columns_note, document_note, events_note, region_note, requests_note, rows_note,
 };
+pub use samples::sample_text;
 pub use verdicts::verdict_text;

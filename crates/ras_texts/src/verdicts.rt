@@ -9,8 +9,8 @@ use ras_inventory::Region;
 use ras_requests::Requests;
 use std::alloc::{AllocError, Global};
 
-// The name of an answer.
-fn answer_text(answer: Answer) -> &'static str
+/// The name of an answer.
+pub(crate) fn answer_text(answer: Answer) -> &'static str
     ensures { result.now ≡ answer_text answer }
 {
     match answer {
@@ -42,8 +42,8 @@ fn stated_line(
     }
 }
 
-// The line of a part.
-fn part_line(alloc: Global, phase: PhaseName, part: &Part) -> Result<String, AllocError>
+/// The line of a part.
+pub(crate) fn part_line(alloc: Global, phase: PhaseName, part: &Part) -> Result<String, AllocError>
     ensures { IfOk result (λ text. string_bytes text ≡ part_line phase part.now) }
 {
     stated_line(alloc, phase, &part.plan, part.lower)

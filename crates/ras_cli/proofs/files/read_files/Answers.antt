@@ -30,4 +30,5 @@ loop-file-preserved g c =
       texts = texts-so-far (g.S.Shelf.held c.args.shelf.now) (g.S.Shelf.held c.loop-file.shelf) c.args.named.now c.loop-file.file-index _ c.loop-file.files.items c.push.new.self.items
           (g.S.Shelf.broke c.loop-file.shelf) (g.S.Shelf.broke c.read.new.self) c.in-Ok.bytes c.loop-file-test.true pushed c.loop-file.invariant.held c.loop-file.invariant.texts
           c.in-Ok.ensures.told c.in-Ok.ensures.fits;
+      unread = λ e. absurd (omega arith);
     }

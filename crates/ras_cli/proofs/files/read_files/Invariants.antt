@@ -13,4 +13,5 @@ invariant-loop-file g l = record {
   each : length l.files.items ≡ l.file-index;
   small : All (λ f. length f.items ≤ 64 * 2 ^ 20) l.files.items;
   texts : HasTexts (g.S.Shelf.held l.initial.shelf) (map limited (take l.file-index l.named)) (map (λ f. f.items) l.files.items);
+  unread : l.file-index ≡ 0 → l.shelf ≡ l.initial.shelf;
 }
