@@ -1,17 +1,8 @@
 //! What moves, protection, spread and nearness cost in the plans of `solve`.
-use crate::documents::{SIX, UNBOUND, one_request, requests};
+use crate::documents::{FOUR, SIX, TWO, UNBOUND, one_request, requests};
 use crate::runs::{Texts, solve};
 use crate::solving::SOLVE;
 use std::test::Fail;
-
-// Two servers on a switchboard each.
-const TWO: &str = "server,type,rack,switchboard,datacenter\ns1,t,k1,m1,d1\ns2,t,k2,m2,d1\n";
-
-// Four servers on two switchboards.
-const FOUR: &str = concat!(
-    "server,type,rack,switchboard,datacenter\n",
-    "s1,t,k1,m1,d1\ns2,t,k1,m1,d1\ns3,t,k2,m2,d1\ns4,t,k2,m2,d1\n",
-);
 
 #[test]
 fn five_costs(rt: HostRuntime) -> Result<(), Fail> {

@@ -14,7 +14,7 @@ fn told_of(alloc: Global, parts: &str) -> Result<String, Fail> {
         bindings: UNBOUND,
         plan: plan.as_str(),
     };
-    told(alloc, texts)
+    Ok(told(alloc, texts)?)
 }
 
 #[test]

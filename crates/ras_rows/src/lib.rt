@@ -1,4 +1,4 @@
-//! Worked examples of `ras check` and `ras solve` over files in memory: the status, the text and the note of each run.
+//! Worked examples of `ras check`, `ras solve` and `ras sample` over files in memory: the status, the text and the note of each run.
 #![tactic(auto)]
 
 #[cfg(test)]
@@ -25,5 +25,7 @@ mod readers;
 mod regions;
 #[cfg(test)]
 mod runs;
+#[cfg(test)]
+mod samples;
 #[cfg(test)]
 mod solving;

@@ -1,10 +1,8 @@
 //! Small regions that `solve` plans, and what `check` says of what it prints.
 use crate::documents::{SIX, UNBOUND, one_request};
 use crate::runs::{Texts, solve};
+pub(crate) use memory_runs::SOLVE;
 use std::test::Fail;
-
-/// The words of `solve` over the three files.
-pub(crate) const SOLVE: [&str; 5] = ["ras", "solve", "inventory", "requests", "bindings"];
 
 const HEAD: &str = "server,type,rack,switchboard,datacenter\n";
 

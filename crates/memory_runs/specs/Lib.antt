@@ -1,0 +1,4 @@
+pub mod Texts
+pub mod Files
+pub mod Runs
+pub mod Solves
