@@ -33,4 +33,6 @@ pub mod Shares
 pub mod Certain
 pub mod CertificateSteps
 pub mod WeightSteps
+pub mod RoundingSteps
+pub mod StopSteps
 pub mod Raises

@@ -14,7 +14,7 @@ use Rattle.exact_simplex.specs.Forms.{Parts, parts_of}
 use Rattle.exact_simplex.specs.Choices.{FirstCandidate, ChoiceFits}
 use Rattle.exact_simplex.specs.Pivots.{PivotFits}
 use Rattle.exact_simplex.specs.Relaxing.{IsReached, IsLeastTable, IsFirstBelow}
-use Rattle.exact_simplex.specs.Certificates.{IsExactPoint, AreExactDuals, AreExactRefutation, CertificateFits, RefutationFits}
+use Rattle.exact_simplex.specs.Certificates.{IsExactPoint, AreExactDuals, AreExactRefutation, AreDualsOfStop, CertificateFits, RefutationFits}
 
 -- the point lies in the relaxation of the box, and the multipliers' bound there is its value, before rounding and after
 pub record Certifies (program : Program) (box : Bounds) (point : Point) (duals : Multipliers) : Type 0 where
@@ -72,6 +72,6 @@ IsMisfit program box at = (IsLeastTable at.cells × (CertificateFits program box
 abbrev pub IsRelaxed : Program → Bounds → ℕ → Relaxed → Type 0
 IsRelaxed program box pivots (Least point duals at) = IsReachedWithin (parts_of program box) pivots at × IsLeastTable at.cells × RowsInRange program duals × Certifies program box point duals × IsExactPoint box at point × AreExactDuals program at duals
 IsRelaxed program box pivots (Empty duals at) = IsReachedWithin (parts_of program box) pivots at × IsEmptyTable at × RowsInRange program duals × Refutes program box duals × AreExactRefutation program at duals
-IsRelaxed program box pivots (Wide at row col duals) = IsWideWithin (parts_of program box) pivots at row col × IsOpenAt at row × RowsInRange program duals
-IsRelaxed program box pivots (Misfit at duals) = IsReachedWithin (parts_of program box) pivots at × IsMisfit program box at × RowsInRange program duals
-IsRelaxed program box pivots (Spent at made duals) = IsReachedAfter (parts_of program box) made at × (made ≡ pivots) × ((row : ℕ) × IsOpenAt at row) × RowsInRange program duals
+IsRelaxed program box pivots (Wide at row col duals) = IsWideWithin (parts_of program box) pivots at row col × IsOpenAt at row × RowsInRange program duals × AreDualsOfStop program at duals
+IsRelaxed program box pivots (Misfit at duals) = IsReachedWithin (parts_of program box) pivots at × IsMisfit program box at × RowsInRange program duals × AreDualsOfStop program at duals
+IsRelaxed program box pivots (Spent at made duals) = IsReachedAfter (parts_of program box) made at × (made ≡ pivots) × ((row : ℕ) × IsOpenAt at row) × RowsInRange program duals × AreDualsOfStop program at duals

@@ -1,5 +1,5 @@
 -- The exact point, duals and refutation of a tableau, and when a point or multipliers are these.
-use Rattle.std.specs.Prelude.{ℕ, ◌≡◌, ◌+◌, ◌*◌, ◌<◌, suc, List, length, slice_index, ℤ, pos, ◌-ℤ◌, neg_ℤ}
+use Rattle.std.specs.Prelude.{ℕ, ◌≡◌, ◌+◌, ◌*◌, ◌<◌, ◌^◌, suc, List, length, slice_index, ℤ, pos, ◌-ℤ◌, ◌<ℤ◌, neg_ℤ, ◌⊎◌}
 use Rattle.ip_model.specs.declared.parts.Bounds.{Bounds}
 use Rattle.ip_model.specs.declared.point.Point.{Point}
 use Rattle.ip_model.specs.declared.program.Program.{Program}
@@ -10,7 +10,7 @@ use Rattle.exact_fraction.specs.declared.fraction.Fraction.{Fraction}
 use Rattle.exact_fraction.specs.Exact.{IsRatio}
 use Rattle.exact_simplex.specs.declared.table.Tableau.{Tableau}
 use Rattle.exact_simplex.specs.Cells.{cell_of, row_of}
-use Rattle.exact_simplex.specs.Duals.{num_at}
+use Rattle.exact_simplex.specs.Duals.{num_at, IsRounded}
 use Rattle.exact_simplex.specs.Relaxing.{IsFirstBelow}
 
 -- no row is the unit of two columns
@@ -61,3 +61,21 @@ pub record CertificateFits (program : Program) (box : Bounds) (at : Tableau) : T
 pub record RefutationFits (program : Program) (at : Tableau) : Type 0 where
   pub duals : Multipliers
   pub are : AreExactRefutation program at duals
+
+-- num / 2^40 is the weight that the row gives to program row i, rounded down
+pub record IsRoundedWeight (units : List ℕ) (row : List Fraction) (i num : ℕ) : Type 0 where
+  pub top : ℤ
+  pub bottom : ℤ
+  pub above : pos 0 <ℤ bottom
+  pub weight : IsWeight units row (length units) i top bottom
+  pub rounded : IsRounded top bottom num
+
+-- the multipliers are the weights that the row of the costs gives, each rounded down
+pub record AreRoundedDuals (program : Program) (at : Tableau) (y : Multipliers) : Type 0 where
+  pub there : RowsInRange program y
+  pub den : y.den ≡ 2 ^ 40
+  pub weights : (i : ℕ) → i < length program.rows → IsRoundedWeight at.units (row_of at.cells 0) i (num_at y.tops i)
+
+-- the duals that an answer without a certificate has: the exact duals where these fit, and else each weight rounded down
+abbrev pub AreDualsOfStop : Program → Tableau → Multipliers → Type 0
+AreDualsOfStop program at y = AreExactDuals program at y ⊎ (((z : Multipliers) → AreExactDuals program at z → ⊥) × AreRoundedDuals program at y)

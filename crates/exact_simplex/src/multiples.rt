@@ -1,7 +1,8 @@
 //! Multipliers of a program's rows, from numbers.
 ghost use Rattle.std.specs.Prelude.{◌≡◌, ℕ, ◌+◌, ◌<◌, ◌≤◌, ◌^◌, pos, All, IfOk, IfSome, IfNone, length, slice_index};
 ghost use Rattle.bound_certificate.specs.declared.multipliers.Multipliers.{Multipliers};
-ghost use Rattle.exact_simplex.specs.Duals.{AreMultipliers, IsListed, num_at};
+ghost use Rattle.exact_simplex.specs.Cells.{cell_of};
+ghost use Rattle.exact_simplex.specs.Duals.{AreExactOrRounded, AreMultipliers, IsListed, IsRounded, num_at};
 
 use crate::commons::{LARGEST, common_den, nums_over};
 use bound_certificate::{Multipliers, Top};
@@ -12,42 +13,42 @@ use std::alloc::{AllocError, Global};
 /// The denominator of multipliers that are rounded down.
 const ROUNDED: u64 = 1 << 40;
 
-/// The part of a number below 1 that is above a whole number, in units of 1 over 2^40, rounded down.
-fn part_rounded(rest: u128, den: u128) -> u64
-    ensures { result ≤ 2 ^ 40 }
+/// The number `top / den` in units of 1 over 2^40, rounded down, up to 2^60. The rest is doubled 40 times, a bit each, since 2^40 times it may pass
+/// 128 bits.
+fn rounded(top: u128, den: u128) -> u64
+    requires some { 1 ≤ den }
+    requires most { den ≤ 2 ^ 126 }
+    ensures { IsRounded (pos top) (pos den) result }
 {
-    if den == 0 {
-        return 0;
+    let whole = top / den;
+    // 2^20 is 2^60 of these units
+    if whole >= 1 << 20 {
+        return LARGEST;
     }
-    let part = match rest.checked_mul(u128::from(ROUNDED)) {
-        Some(wide) => wide / den,
-        None => rest / (den / u128::from(ROUNDED) + 1),
-    };
-    part.min(u128::from(ROUNDED)) as u64
+    let mut num = whole as u64;
+    let mut rest = top % den;
+    for bit in 0..40_u32 {
+        let double = 2 * rest;
+        num = 2 * num + (double / den) as u64;
+        rest = double % den;
+    }
+    num
 }
 
 /// A number in units of 1 over 2^40, rounded down, from 0 to 2^60.
 fn num_rounded(number: Fraction) -> u64
-    ensures { result ≤ 2 ^ 60 }
+    ensures { IsRounded number.num number.den result }
 {
-    let den = number.den.unsigned_abs();
-    if number.num <= 0 || den == 0 {
+    if number.num <= 0 {
         return 0;
     }
-    let top = number.num.unsigned_abs();
-    let part = part_rounded(top % den, den);
-    match u64::try_from(top / den) {
-        Ok(up) => (up.saturating_mul(ROUNDED))
-            .saturating_add(part)
-            .min(LARGEST),
-        Err(_) => LARGEST,
-    }
+    rounded(number.num.unsigned_abs(), number.den.unsigned_abs())
 }
 
 /// The numbers in units of 1 over 2^40, rounded down.
 fn nums_rounded(alloc: Global, numbers: &[Fraction]) -> Result<Vec<u64>, AllocError>
     ensures size { IfOk result (λ nums. length nums.items ≡ length numbers.now) }
-    ensures most { IfOk result (λ nums. (i : ℕ) → i < length numbers.now → slice_index nums.items i ≤ 2 ^ 60) }
+    ensures nums { IfOk result (λ nums. (i : ℕ) → i < length numbers.now → IsRounded (cell_of numbers.now i).num (cell_of numbers.now i).den (slice_index nums.items i)) }
 {
     let mut nums = Vec::with_capacity(alloc, numbers.len())?;
     for number in numbers {
@@ -111,7 +112,8 @@ pub fn exact_multipliers(
 /// The multipliers of rows with these weights, rounded down where they do not fit.
 pub fn near_multipliers(alloc: Global, weights: &[Fraction]) -> Result<Multipliers, AllocError>
     requires { length weights.now < 2 ^ 32 }
-    ensures { IfOk result (λ y. All (λ top. top.row < length weights.now) y.tops) }
+    ensures rows { IfOk result (λ y. All (λ top. top.row < length weights.now) y.tops) }
+    ensures near { IfOk result (λ y. AreExactOrRounded weights.now y) }
 {
     if let Some(exact) = exact_multipliers(alloc, weights)? {
         return Ok(exact);

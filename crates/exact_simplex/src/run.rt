@@ -6,7 +6,7 @@ ghost use Rattle.bound_certificate.specs.declared.multipliers.Multipliers.{Multi
 ghost use Rattle.exact_simplex.specs.Choices.{FirstCandidate};
 ghost use Rattle.exact_simplex.specs.Forms.{parts_of};
 ghost use Rattle.exact_simplex.specs.Answers.{IsMisfit, IsReachedAfter, IsReachedAt, IsReachedWithin, IsRelaxed, IsWideWithin};
-ghost use Rattle.exact_simplex.specs.Certificates.{AreExactDuals, AreExactRefutation, RefutationFits, UnitsDiffer};
+ghost use Rattle.exact_simplex.specs.Certificates.{AreDualsOfStop, AreExactDuals, AreExactRefutation, RefutationFits, UnitsDiffer};
 ghost use Rattle.exact_simplex.specs.Relaxing.{IsFirstBelow, IsLeastTable};
 
 use crate::multiples::{exact_multipliers, near_multipliers};
@@ -24,7 +24,8 @@ use std::alloc::{AllocError, Global};
 fn near_duals(alloc: Global, program: &Program, at: &Tableau) -> Result<Multipliers, AllocError>
     requires some { 0 < length at.now.cells }
     requires units { UnitsDiffer at.now.units }
-    ensures { IfOk result (λ y. RowsInRange program.now y) }
+    ensures rows { IfOk result (λ y. RowsInRange program.now y) }
+    ensures duals { IfOk result (λ y. AreDualsOfStop program.now at.now y) }
 {
     let weights = dual_weights(alloc, at, program.rows.len())?;
     near_multipliers(alloc, weights.as_slice())
