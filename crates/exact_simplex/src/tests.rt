@@ -3,10 +3,12 @@ ghost use Rattle.std.specs.Prelude.{◌≡◌, ◌<◌, ◌^◌, All, IfOk, None
 ghost use Rattle.ip_model.specs.declared.parts.Mark.TheVariants.{Count};
 ghost use Rattle.ip_model.specs.declared.parts.RowKind.TheVariants.{Total};
 
+use crate::multiples::near_multipliers;
 use crate::relaxed::Relaxed;
 use crate::run::relax;
 use crate::table::Tableau;
 use bound_certificate::Top;
+use exact_fraction::whole;
 use ip_model::{Column, Line, Mark, Program, RowKind, Term, full_box};
 use ras_table::List;
 use std::alloc::{AllocError, Global};
@@ -558,6 +560,30 @@ fn chains(rt: HostRuntime) -> Result<(), Fail> {
     let holds = gives_wide(alloc, chain_of_fourteen(alloc)?, 15, 1)?;
     assert!(rt; holds);
     let holds = gives_spent(alloc, chain_of_fourteen(alloc)?)?;
+    assert!(rt; holds);
+    Ok(())
+}
+
+/// Whether the multipliers with the weights -1, a share of a whole number and 2^21 are these numerators over 2^40.
+fn gives_rounded(
+    alloc: Global,
+    share: (i64, i64),
+    multipliers: &[(u32, u64)],
+) -> Result<bool, AllocError> {
+    if share.1 == 0 {
+        return Ok(false);
+    }
+    let Some(part) = whole(share.0).div(whole(share.1)) else {
+        return Ok(false);
+    };
+    let y = near_multipliers(alloc, &[whole(-1), part, whole(1 << 21)])?;
+    Ok(y.den == 1 << 40 && are(y.tops.as_slice(), multipliers))
+}
+
+#[test]
+fn rounded_down(rt: HostRuntime) -> Result<(), Fail> {
+    let wanted = [(1, 733_007_751_850), (2, 1 << 60)];
+    let holds = gives_rounded(rt.alloc(), (2, 3), &wanted)?;
     assert!(rt; holds);
     Ok(())
 }
