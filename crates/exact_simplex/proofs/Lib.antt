@@ -36,3 +36,5 @@ pub mod WeightSteps
 pub mod RoundingSteps
 pub mod StopSteps
 pub mod Raises
+pub mod KeptFacts
+pub mod MergeFacts

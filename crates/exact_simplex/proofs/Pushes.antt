@@ -3,7 +3,12 @@ use Rattle.std.proofs.Common.{◌≡◌, ℕ, suc, ◌+◌, ◌<◌, ℤ, pos, s
 use Rattle.std.proofs.lemmas.List.{get_or_append_left, get_or_push}
 use Rattle.exact_fraction.specs.declared.fraction.Fraction.{Fraction}
 use Rattle.exact_simplex.specs.Cells.{cell_of, row_of, no_fraction}
-use Rattle.exact_simplex.specs.Beginning.{IsWhole}
+use Rattle.std.proofs.lemmas.Bool.{cases_eq}
+use Rattle.exact_simplex.specs.Beginning.{IsWhole, IsWholeRow}
+use Rattle.exact_simplex.specs.Kept.{AreBelow, IsRising, all_cells, value_of}
+use Rattle.exact_simplex.specs.declared.tableau_row.Kept.{Kept}
+use Rattle.exact_simplex.proofs.KeptFacts.{cell_is, size_is}
+use Rattle.exact_simplex.proofs.MergeFacts.{KeptNext}
 
 either : (k n : ℕ) → k < n + 1 → (k < n) ⊎ (k ≡ n)
 either k n h = grind arith
@@ -32,18 +37,39 @@ row_pushed P rows row n before here = record {
 }
 
 -- a row of whole numbers so far
-pub record WholeSoFar (value : ℤ) (slopes : List ℤ) (row : List Fraction) (n : ℕ) : Type 0 where
-  pub size : length row ≡ n + 1
-  pub first : IsWhole (cell_of row 0) value
-  pub others : (k : ℕ) → k < n → IsWhole (cell_of row (suc k)) (get_or slopes k (pos 0))
+pub record WholeUpTo (value : ℤ) (slopes : List ℤ) (kept : List Kept) (n : ℕ) : Type 0 where
+  pub rising : IsRising 0 kept
+  pub below : AreBelow (suc n) kept
+  pub first : IsWhole (value_of kept 0) value
+  pub others : (k : ℕ) → k < n → IsWhole (value_of kept (suc k)) (get_or slopes k (pos 0))
 
-pub whole_pushed : (value : ℤ) (slopes : List ℤ) (row : List Fraction) (cell : Fraction) (n : ℕ) → WholeSoFar value slopes row n → IsWhole cell (get_or slopes n (pos 0)) → WholeSoFar value slopes (row ++ cell ∷ []) (n + 1)
-whole_pushed value slopes row cell n before here = record {
-  size = length-append row (cell ∷ []) ∙ ap (λ (k : ℕ). k + 1) before.size;
-  first = subst (λ f. IsWhole f value) (sym (get_or_append_left row (cell ∷ []) no_fraction 0 (let e = before.size in omega arith))) before.first;
-  others = λ k h.
-      elim (either k n h) [
-        | inl p ↦ subst (λ f. IsWhole f (get_or slopes k (pos 0))) (sym (get_or_append_left row (cell ∷ []) no_fraction (suc k) (let e = before.size in omega arith))) (before.others k p)
-        | inr p ↦ subst (λ (m : ℕ). IsWhole (cell_of (row ++ cell ∷ []) (suc m)) (get_or slopes m (pos 0))) (sym p) (subst (λ f. IsWhole f (get_or slopes n (pos 0))) (sym (get_or_push row cell no_fraction (suc n) (let e = before.size in omega arith))) here)
-      ];
+pub whole_start : (value : ℤ) (slopes : List ℤ) (kept : List Kept) (cell : Fraction) → IsWhole cell value → KeptNext [] kept 0 cell → WholeUpTo value slopes kept 0
+whole_start value slopes kept cell is next = record {
+  rising = next.rising;
+  below = next.below;
+  first = (next.num ∙ is.0, next.den ∙ is.1);
+  others = λ k p. absurd (omega arith);
 }
+
+pub whole_next : (value : ℤ) (slopes : List ℤ) (old new : List Kept) (cell : Fraction) (n m : ℕ) → m ≡ suc n → WholeUpTo value slopes old n → IsWhole cell (get_or slopes n (pos 0)) → KeptNext old new m cell → WholeUpTo value slopes new m
+whole_next value slopes old new cell n m up before is next = record {
+  rising = next.rising;
+  below = next.below;
+  first = subst (λ (f : Fraction). IsWhole f value) (sym (next.others 0 (λ e. omega arith))) before.first;
+  others = λ k p. elim (cases_eq k n) [
+    | inl here ↦
+        (let there : m ≡ suc k = omega arith in
+        let own : IsWhole (value_of new m) (get_or slopes n (pos 0)) = (next.num ∙ is.0, next.den ∙ is.1) in
+        subst (λ (j : ℕ). IsWhole (value_of new (suc k)) (get_or slopes j (pos 0))) (sym here) (subst (λ (j : ℕ). IsWhole (value_of new j) (get_or slopes n (pos 0))) there own))
+    | inr other ↦ subst (λ (f : Fraction). IsWhole f (get_or slopes k (pos 0))) (sym (next.others (suc k) (λ e. other (omega arith)))) (before.others k (omega arith))
+  ];
+}
+
+pub whole_end : (value : ℤ) (slopes : List ℤ) (kept : List Kept) (size n : ℕ) → n ≡ length slopes → size ≡ suc n → WholeUpTo value slopes kept n → IsWholeRow (all_cells size kept) value slopes
+whole_end value slopes kept size n is_n is_size h =
+    let below : AreBelow size kept = subst (λ (m : ℕ). AreBelow m kept) (sym is_size) h.below in
+    record {
+      size = size_is size kept ∙ is_size ∙ ap suc is_n;
+      first = subst (λ (f : Fraction). IsWhole f value) (cell_is size kept below 0) h.first;
+      others = λ k p. subst (λ (f : Fraction). IsWhole f (get_or slopes k (pos 0))) (cell_is size kept below (suc k)) (h.others k (omega arith));
+    }

@@ -1,12 +1,17 @@
 -- The rows of the start tableau show the forms of their places.
-use Rattle.std.proofs.Common.{◌≡◌, ℕ, zero, suc, ◌+◌, ◌<◌, ◌≤◌, sym, ap, subst, ◌∙◌, arith, ℤ, pos, ◌-ℤ◌, ◌*ℤ◌, List, length, slice_index, Result, Ok, Err, IfOk, All}
+use Rattle.std.proofs.Common.{◌≡◌, ℕ, zero, suc, ◌+◌, ◌<◌, ◌≤◌, sym, ap, subst, ◌∙◌, arith, ℤ, pos, ◌-ℤ◌, ◌*ℤ◌, List, [], length, slice_index, if◌then◌else◌, ◌==◌, inl, inr, refl, Result, Ok, Err, IfOk, All}
 use Rattle.exact_fraction.specs.declared.fraction.Fraction.{Fraction}
 use Rattle.exact_fraction.specs.Exact.{IsRatio}
 use Rattle.exact_simplex.specs.Tableaus.{Form}
 use Rattle.exact_simplex.specs.Forms.{Parts, parts_of, step, surplus, room, form_at, forms_of}
 use Rattle.exact_simplex.specs.Start.{start_of}
 use Rattle.exact_simplex.specs.Cells.{cell_of, row_of, number_at, Shows}
-use Rattle.exact_simplex.specs.Beginning.{IsWhole, IsWholeRow, ShowsForm, AreSlopes}
+use Rattle.std.proofs.lemmas.Bool.{cases_eq, eq-eqb, ne_eqb}
+use Rattle.exact_simplex.specs.Beginning.{IsWhole, IsWholeRow, ShowsForm, AreSlopes, single_form}
+use Rattle.exact_simplex.specs.Kept.{AreBelow, all_cells, value_of}
+use Rattle.exact_simplex.specs.declared.tableau_row.Kept.{Kept}
+use Rattle.exact_simplex.proofs.KeptFacts.{below_more, cell_is, size_is}
+use Rattle.exact_simplex.proofs.MergeFacts.{KeptNext}
 use Rattle.exact_simplex.proofs.Least.{step_place, surplus_place, room_place}
 use Rattle.ip_model.specs.declared.parts.Term.{Term}
 use Rattle.ip_model.specs.declared.parts.Line.{Line}
@@ -61,3 +66,23 @@ surplus_when found program box i line terms low value at_lows slopes given line_
     form_when found n value given (form_at (parts_of program box) (surplus i)) made
     (subst (λ xs. AreSlopes xs n (factor_of (terms_of program.rows i))) (sym is_given) (subst (λ ts. AreSlopes slopes n (factor_of ts)) same are))
     (is_value ∙ ap (λ z. z -ℤ line.least) sum ∙ ap (λ z. sum_below n (λ j. factor_of (terms_of program.rows i) j *ℤ pos (slice_index box.low j)) -ℤ z) (sym line_is.least_is))
+
+-- the row of a value and one factor
+single_shown : (n place : ℕ) (value slope : ℤ) (one two : List Kept) (first second : Fraction) (m : ℕ) → place < n → m ≡ suc place → IsWhole first value → IsWhole second slope → KeptNext [] one 0 first → KeptNext one two m second → ShowsForm n (all_cells (suc n) two) (single_form value place slope)
+single_shown n place value slope one two first second m there up is_value is_slope kept next =
+    let below : AreBelow (suc n) two = below_more (suc m) (suc n) two (omega arith) next.below in
+    record {
+      size = size_is (suc n) two;
+      first = subst (λ (f : Fraction). IsWhole f value) (sym (next.others 0 (λ e. omega arith)) ∙ cell_is (suc n) two below 0) (kept.num ∙ is_value.0, kept.den ∙ is_value.1);
+      others = λ k p. subst (λ (f : Fraction). IsWhole f (if k == place then slope else pos 0)) (cell_is (suc n) two below (suc k)) (elim (cases_eq k place) [
+        | inl here ↦
+            (let same : m ≡ suc k = omega arith in
+            let own : IsWhole (value_of two m) slope = (next.num ∙ is_slope.0, next.den ∙ is_slope.1) in
+            rw (eq-eqb k place here) (subst (λ (j : ℕ). IsWhole (value_of two j) slope) same own))
+        | inr other ↦ rw (ne_eqb k place other) (subst (λ (f : Fraction). IsWhole f (pos 0)) (sym (next.others (suc k) (λ e. other (omega arith)) ∙ kept.others (suc k) (λ e. omega arith))) (refl, refl))
+      ]);
+    }
+
+pub single_when : (n size place : ℕ) (value slope : ℤ) (one two : List Kept) (first second : Fraction) (m : ℕ) (row : List Fraction) → row ≡ all_cells size two → size ≡ suc n → place < n → m ≡ suc place → IsWhole first value → IsWhole second slope → KeptNext [] one 0 first → KeptNext one two m second → ShowsForm n row (single_form value place slope)
+single_when n size place value slope one two first second m row is_row is_size there up is_value is_slope kept next =
+    subst (λ (xs : List Fraction). ShowsForm n xs (single_form value place slope)) (sym (is_row ∙ ap (λ (k : ℕ). all_cells k two) is_size)) (single_shown n place value slope one two first second m there up is_value is_slope kept next)

@@ -1,5 +1,5 @@
 -- The rows of the start tableau, of whole numbers.
-use Rattle.std.specs.Prelude.{ℕ, ◌≡◌, ◌<◌, suc, List, length, slice_index_or, ℤ, pos}
+use Rattle.std.specs.Prelude.{ℕ, ◌≡◌, ◌<◌, suc, List, length, slice_index_or, if◌then◌else◌, ◌==◌, ℤ, pos}
 use Rattle.exact_fraction.specs.declared.fraction.Fraction.{Fraction}
 use Rattle.exact_simplex.specs.Cells.{cell_of}
 use Rattle.exact_simplex.specs.Tableaus.{Form}
@@ -23,3 +23,7 @@ pub record ShowsForm (n : ℕ) (row : List Fraction) (form : Form) : Type 0 wher
 pub record AreSlopes (slopes : List ℤ) (n : ℕ) (slope : ℕ → ℤ) : Type 0 where
   pub size : length slopes ≡ n
   pub at : (k : ℕ) → k < n → slice_index_or slopes k (pos 0) ≡ slope k
+
+-- the affine function of a value and one slope
+abbrev pub single_form : ℤ → ℕ → ℤ → Form
+single_form value place slope = record { slope = λ j. if j == place then slope else pos 0; constant = value }

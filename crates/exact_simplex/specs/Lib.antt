@@ -4,6 +4,7 @@ pub mod Commons
 pub mod Duals
 pub mod Start
 pub mod Cells
+pub mod Kept
 pub mod Pivots
 pub mod Changes
 pub mod Shapes

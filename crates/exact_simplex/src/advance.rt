@@ -6,23 +6,22 @@ ghost use Rattle.exact_simplex.specs.Forms.{Parts};
 ghost use Rattle.exact_simplex.specs.Relaxing.{AdvanceGives, FirstBelow, IsFirstBelow, IsReached, IsState};
 ghost use Rattle.exact_simplex.specs.Tableaus.{Scaled};
 
+use crate::merge::taken_at;
 use crate::numbers::is_below_none;
 use crate::picks::{choose, first_candidate};
-use crate::rows::cell_at;
 use crate::state::{Advance, State};
 use crate::table::Tableau;
-use exact_fraction::Fraction;
-use ras_table::List;
+use crate::tableau_row::TableauRow;
 use std::alloc::{AllocError, Global};
 
 /// The first row from 1 on with a value below 0.
-fn first_below(cells: &[List<Fraction>], rows: u32) -> Option<u32>
+fn first_below(cells: &[TableauRow], rows: u32) -> Option<u32>
     requires rows { rows ≡ length cells.now }
     requires sizes { (i : ℕ) → i < length cells.now → 0 < length (row_of cells.now i) }
     ensures { FirstBelow result cells.now }
 {
     for i in 1..rows {
-        if is_below_none(cell_at(cells, i as usize, 0)) {
+        if is_below_none(taken_at(cells[i as usize].kept(), 0).0) {
             return Some(i);
         }
     }

@@ -30,7 +30,7 @@ impl Tableau {
         requires column { column ≤ length self.now.units }
         ensures { result ≡ cell_of (row_of self.now.cells row) column }
     {
-        self.cells.as_slice()[row as usize].as_slice()[column as usize]
+        self.cells.as_slice()[row as usize].cell(column as usize)
     }
 
     /// The row that is the unit of a column from 1 on.

@@ -6,6 +6,7 @@ mod calls;
 mod commons;
 mod laws;
 mod lows;
+mod merge;
 mod multiples;
 mod numbers;
 mod picks;
@@ -17,6 +18,7 @@ mod run;
 mod start;
 mod state;
 mod table;
+mod tableau_row;
 #[cfg(test)]
 mod tests;
 

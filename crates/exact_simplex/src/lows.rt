@@ -81,21 +81,6 @@ pub fn cost_slopes(alloc: Global, columns: &[Column]) -> Result<Vec<i64>, AllocE
     Ok(slopes)
 }
 
-/// A number in one column, and 0 in the others.
-pub fn single_slope(
-    alloc: Global,
-    size: usize,
-    place: usize,
-    number: i64,
-) -> Result<Vec<i64>, AllocError>
-    requires { place < size }
-    ensures { IfOk result (λ slopes. AreSlopes slopes.items size (λ j. if j == place then number else pos 0)) }
-{
-    let mut slopes = vec![in alloc; 0i64; size]?;
-    slopes[place] = number;
-    Ok(slopes)
-}
-
 /// A slope with one more factor.
 fn added(slope: i64, factor: i32) -> i64
     requires slope { unsigned_abs slope ≤ 2 ^ 30 }

@@ -7,8 +7,8 @@ ghost use Rattle.exact_simplex.specs.Tableaus.{Scaled};
 
 use crate::numbers::{is_above_none, is_none};
 use crate::rows::cell_at;
+use crate::tableau_row::TableauRow;
 use exact_fraction::Fraction;
-use ras_table::List;
 use std::cmp::Ordering;
 
 /// The order of a / p and b / q, where both quotients fit or a and b are 0.
@@ -32,7 +32,7 @@ fn order_of_quotients(a: Fraction, p: Fraction, b: Fraction, q: Fraction) -> Opt
 }
 
 /// Whether the quotients of another column come before those of the held one, by the first row where they differ.
-fn comes_before(cells: &[List<Fraction>], place: usize, held: usize, other: usize) -> Option<bool>
+fn comes_before(cells: &[TableauRow], place: usize, held: usize, other: usize) -> Option<bool>
     requires place { place < length cells.now }
     requires held { (i : ℕ) → i < length cells.now → held < length (row_of cells.now i) }
     requires other { (i : ℕ) → i < length cells.now → other < length (row_of cells.now i) }
@@ -58,7 +58,7 @@ fn comes_before(cells: &[List<Fraction>], place: usize, held: usize, other: usiz
 }
 
 /// The first candidate of a row.
-pub fn first_candidate(cells: &[List<Fraction>], place: usize, units: u32) -> Option<u32>
+pub fn first_candidate(cells: &[TableauRow], place: usize, units: u32) -> Option<u32>
     requires place { place < length cells.now }
     requires size { length (row_of cells.now place) ≡ suc units }
     ensures { FirstCandidate result cells.now place units }
@@ -72,7 +72,7 @@ pub fn first_candidate(cells: &[List<Fraction>], place: usize, units: u32) -> Op
 }
 
 /// The unit that is held once another candidate was compared.
-fn compared(cells: &[List<Fraction>], place: usize, held: u32, other: u32) -> Option<u32>
+fn compared(cells: &[TableauRow], place: usize, held: u32, other: u32) -> Option<u32>
     requires place { place < length cells.now }
     requires held { (i : ℕ) → i < length cells.now → suc held < length (row_of cells.now i) }
     requires other { (i : ℕ) → i < length cells.now → suc other < length (row_of cells.now i) }
@@ -90,7 +90,7 @@ fn compared(cells: &[List<Fraction>], place: usize, held: u32, other: u32) -> Op
 }
 
 /// The unit that is held once one more was seen.
-fn next_held(cells: &[List<Fraction>], place: usize, held: u32, other: u32) -> Option<u32>
+fn next_held(cells: &[TableauRow], place: usize, held: u32, other: u32) -> Option<u32>
     requires place { place < length cells.now }
     requires held { (i : ℕ) → i < length cells.now → suc held < length (row_of cells.now i) }
     requires other { (i : ℕ) → i < length cells.now → suc other < length (row_of cells.now i) }
@@ -106,7 +106,7 @@ fn next_held(cells: &[List<Fraction>], place: usize, held: u32, other: u32) -> O
 }
 
 /// The written choice of a unit, from the first candidate on, or None where it does not fit.
-pub fn choose(cells: &[List<Fraction>], place: usize, first: u32, units: u32) -> Option<u32>
+pub fn choose(cells: &[TableauRow], place: usize, first: u32, units: u32) -> Option<u32>
     requires place { place < length cells.now }
     requires sizes { (i : ℕ) → i < length cells.now → length (row_of cells.now i) ≡ suc units }
     requires first { FirstCandidate (Some first) cells.now place units }

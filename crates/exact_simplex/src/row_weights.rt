@@ -4,6 +4,7 @@ ghost use Rattle.exact_simplex.specs.Cells.{cell_of, row_of};
 ghost use Rattle.exact_simplex.specs.Certificates.{IsRefutingWeight, IsSurplus, IsWeight, UnitsDiffer};
 
 use crate::table::Tableau;
+use crate::tableau_row::TableauRow;
 use exact_fraction::{Fraction, whole};
 use std::alloc::{AllocError, Global};
 
@@ -55,6 +56,18 @@ fn weights_of(
     Ok(weights)
 }
 
+/// The cells of all columns of a row.
+fn cells_of(alloc: Global, row: &TableauRow) -> Result<Vec<Fraction>, AllocError>
+    ensures { IfOk result (λ cells. cells.items ≡ row.now) }
+{
+    let size = row.size() as usize;
+    let mut cells = Vec::with_capacity(alloc, size)?;
+    for c in 0..size {
+        cells.push(row.cell(c))?;
+    }
+    Ok(cells)
+}
+
 /// The weights of the program's rows in the row of the costs.
 pub fn dual_weights(alloc: Global, at: &Tableau, rows: u32) -> Result<Vec<Fraction>, AllocError>
     requires some { 0 < length at.now.cells }
@@ -62,19 +75,20 @@ pub fn dual_weights(alloc: Global, at: &Tableau, rows: u32) -> Result<Vec<Fracti
     ensures size { IfOk result (λ weights. length weights.items ≡ rows) }
     ensures weights { IfOk result (λ weights. (i : ℕ) → i < rows → IsWeight at.now.units (row_of at.now.cells 0) (length at.now.units) i (cell_of weights.items i).num (cell_of weights.items i).den) }
 {
-    let row = at.cells.as_slice()[0].as_slice();
-    weights_of(alloc, at.units.as_slice(), row, rows)
+    let cells = cells_of(alloc, &at.cells.as_slice()[0])?;
+    weights_of(alloc, at.units.as_slice(), cells.as_slice(), rows)
 }
 
-/// The numbers with their signs turned.
-fn turned(alloc: Global, row: &[Fraction]) -> Result<Vec<Fraction>, AllocError>
+/// The cells of all columns of a row, with their signs turned.
+fn turned(alloc: Global, row: &TableauRow) -> Result<Vec<Fraction>, AllocError>
     ensures size { IfOk result (λ turned. length turned.items ≡ length row.now) }
     ensures nums { IfOk result (λ turned. (c : ℕ) → c < length row.now → (cell_of turned.items c).num ≡ neg_ℤ (cell_of row.now c).num) }
     ensures dens { IfOk result (λ turned. (c : ℕ) → c < length row.now → (cell_of turned.items c).den ≡ (cell_of row.now c).den) }
 {
-    let mut turned = Vec::with_capacity(alloc, row.len())?;
-    for cell in row {
-        turned.push(cell.negated())?;
+    let size = row.size() as usize;
+    let mut turned = Vec::with_capacity(alloc, size)?;
+    for c in 0..size {
+        turned.push(row.cell(c).negated())?;
     }
     Ok(turned)
 }
@@ -93,7 +107,7 @@ pub fn refuting_weights(
     ensures weights { IfOk result (λ weights. (i : ℕ) → i < rows → IsRefutingWeight at.now.units (row_of at.now.cells row) row i (cell_of weights.items i).num (cell_of weights.items i).den) }
 {
     let units = at.units.as_slice();
-    let turned = turned(alloc, at.cells.as_slice()[row as usize].as_slice())?;
+    let turned = turned(alloc, &at.cells.as_slice()[row as usize])?;
     let mut weights = weights_of(alloc, units, turned.as_slice(), rows)?;
     put_weight(&mut weights, units.len() as u32, row, whole(1));
     Ok(weights)

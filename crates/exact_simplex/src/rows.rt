@@ -4,89 +4,95 @@ ghost use Rattle.exact_simplex.specs.Cells.{cell_of, row_of};
 ghost use Rattle.exact_simplex.specs.Pivots.{PivotFits};
 ghost use Rattle.exact_simplex.specs.Changes.{AreChanges, ArePivotChanges, AreShares, ChangeFits, ChangeFor, ChangesFit, IsRowAfter, IsUnitRow, RowAfterFits, SharesFit, change_at};
 
+use crate::merge::{first_column, keep, taken_at};
 use crate::numbers::{cell_after, is_none, share_of};
+use crate::tableau_row::TableauRow;
 use exact_fraction::{Fraction, whole};
 use ras_table::List;
 use std::alloc::{AllocError, Global};
 
 /// The cell in a row and a column.
-pub fn cell_at(cells: &[List<Fraction>], row: usize, column: usize) -> Fraction
+pub fn cell_at(cells: &[TableauRow], row: usize, column: usize) -> Fraction
     requires row { row < length cells.now }
     requires column { column < length (row_of cells.now row) }
     ensures { result ≡ cell_of (row_of cells.now row) column }
 {
-    cells[row].as_slice()[column]
+    cells[row].cell(column)
 }
 
 /// The shares of all columns.
 pub fn shares_of(
     alloc: Global,
-    row: &[Fraction],
+    row: &TableauRow,
     column: usize,
     pivot: Fraction,
-) -> Result<Option<Vec<Fraction>>, AllocError>
+) -> Result<Option<TableauRow>, AllocError>
     requires { pos 0 <ℤ pivot.num }
-    ensures shares { IfOk result (λ found. IfSome found (λ shares. AreShares shares.items row.now column pivot)) }
+    ensures shares { IfOk result (λ found. IfSome found (λ shares. AreShares shares row.now column pivot)) }
     ensures none { IfOk result (λ found. IfNone found (SharesFit row.now column pivot → ⊥)) }
 {
-    let mut shares = Vec::with_capacity(alloc, row.len())?;
-    for (c, cell) in row.iter().enumerate() {
-        let Some(share) = share_of(*cell, pivot, c == column) else {
+    let kept = row.kept();
+    let mut shares = Vec::with_capacity(alloc, kept.len())?;
+    for cell in kept {
+        let own = cell.column as usize == column;
+        let Some(share) = share_of(cell.value, pivot, own) else {
             return Ok(None);
         };
-        shares.push(share)?;
+        keep(&mut shares, cell.column, share)?;
     }
-    Ok(Some(shares))
+    Ok(Some(TableauRow::of(row.size(), shares)))
 }
 
-/// The new row of a row that is neither the pivot's nor 0 in its column.
+/// The new row of a row that is not the pivot's: where neither the row nor the shares keep a cell, the new row keeps none.
 pub fn row_after(
     alloc: Global,
-    row: &[Fraction],
-    shares: &[Fraction],
+    row: &TableauRow,
+    shares: &TableauRow,
     column: usize,
     pivot: Fraction,
-) -> Result<Option<List<Fraction>>, AllocError>
-    requires few { length row.now < 2 ^ 32 }
+) -> Result<Option<TableauRow>, AllocError>
     requires column { column < length row.now }
     requires shares { length shares.now ≡ length row.now }
     requires pivot { pos 0 <ℤ pivot.num }
     ensures row { IfOk result (λ found. IfSome found (λ new. IsRowAfter new row.now shares.now column pivot)) }
     ensures none { IfOk result (λ found. IfNone found (RowAfterFits row.now shares.now column pivot → ⊥)) }
 {
-    let factor = row[column];
-    let mut new = Vec::with_capacity(alloc, row.len())?;
-    for (c, old) in row.iter().enumerate() {
-        let Some(cell) = cell_after(*old, factor, shares[c], pivot, c == column) else {
+    let factor = row.cell(column);
+    let mut left = row.kept();
+    let mut right = shares.kept();
+    let mut new = Vec::with_capacity(alloc, left.len() + right.len())?;
+    while let Some(place) = first_column(left, right) {
+        let (old, later) = taken_at(left, place);
+        let (share, later_shares) = taken_at(right, place);
+        let Some(cell) = cell_after(old, factor, share, pivot, place as usize == column) else {
             return Ok(None);
         };
-        new.push(cell)?;
+        keep(&mut new, place, cell)?;
+        left = later;
+        right = later_shares;
     }
-    Ok(Some(List::from_vec(new)))
+    Ok(Some(TableauRow::of(row.size(), new)))
 }
 
 /// The row with 1 in a column and 0 elsewhere.
-pub fn unit_row(alloc: Global, size: usize, column: usize) -> Result<List<Fraction>, AllocError>
-    requires { size < 2 ^ 32 }
+pub fn unit_row(alloc: Global, size: u32, column: u32) -> Result<TableauRow, AllocError>
+    requires { column < size }
     ensures { IfOk result (λ row. IsUnitRow row column size) }
 {
-    let mut row = Vec::with_capacity(alloc, size)?;
-    for c in 0..size {
-        row.push(whole(if c == column { 1 } else { 0 }))?;
-    }
-    Ok(List::from_vec(row))
+    let mut kept = Vec::with_capacity(alloc, 1)?;
+    keep(&mut kept, column, whole(1))?;
+    Ok(TableauRow::of(size, kept))
 }
 
 /// What becomes of a row in a pivot.
 fn change_of(
     alloc: Global,
-    row: &[Fraction],
-    shares: &[Fraction],
+    row: &TableauRow,
+    shares: &TableauRow,
     column: usize,
     pivot: Fraction,
     own: bool,
-) -> Result<Option<Option<List<Fraction>>>, AllocError>
-    requires few { length row.now < 2 ^ 32 }
+) -> Result<Option<Option<TableauRow>>, AllocError>
     requires column { column < length row.now }
     requires shares { length shares.now ≡ length row.now }
     requires pivot { pos 0 <ℤ pivot.num }
@@ -94,9 +100,9 @@ fn change_of(
     ensures none { IfOk result (λ found. IfNone found (ChangeFits own row.now shares.now column pivot → ⊥)) }
 {
     if own {
-        return Ok(Some(Some(unit_row(alloc, row.len(), column)?)));
+        return Ok(Some(Some(unit_row(alloc, row.size(), column as u32)?)));
     }
-    if is_none(row[column]) {
+    if is_none(row.cell(column)) {
         return Ok(Some(None));
     }
     let Some(new) = row_after(alloc, row, shares, column, pivot)? else {
@@ -108,22 +114,21 @@ fn change_of(
 /// What becomes of each row in a pivot.
 pub fn changes_of(
     alloc: Global,
-    cells: &[List<Fraction>],
+    cells: &[TableauRow],
     place: usize,
-    shares: &[Fraction],
+    shares: &TableauRow,
     column: usize,
     pivot: Fraction,
-) -> Result<Option<Vec<Option<List<Fraction>>>>, AllocError>
+) -> Result<Option<Vec<Option<TableauRow>>>, AllocError>
     requires sizes { (i : ℕ) → i < length cells.now → length (row_of cells.now i) ≡ length shares.now }
     requires column { column < length shares.now }
-    requires few { length shares.now < 2 ^ 32 }
     requires pivot { pos 0 <ℤ pivot.num }
     ensures changes { IfOk result (λ found. IfSome found (λ changes. AreChanges changes.items cells.now place shares.now column pivot)) }
     ensures none { IfOk result (λ found. IfNone found (ChangesFit cells.now place shares.now column pivot → ⊥)) }
 {
     let mut changes = Vec::with_capacity(alloc, cells.len())?;
     for (i, row) in cells.iter().enumerate() {
-        let found = change_of(alloc, row.as_slice(), shares, column, pivot, i == place)?;
+        let found = change_of(alloc, row, shares, column, pivot, i == place)?;
         let Some(change) = found else {
             return Ok(None);
         };
@@ -133,7 +138,7 @@ pub fn changes_of(
 }
 
 /// Puts each new row in its place.
-pub fn put_rows(cells: &mut List<List<Fraction>>, mut changes: Vec<Option<List<Fraction>>>)
+pub fn put_rows(cells: &mut List<TableauRow>, mut changes: Vec<Option<TableauRow>>)
     requires { length changes.items ≡ length cells.old }
     ensures size { length cells.new ≡ length cells.old }
     ensures rows { (i : ℕ) → i < length cells.old → row_of cells.new i ≡ unwrap_or (change_at changes.items i) (row_of cells.old i) }
@@ -150,10 +155,10 @@ pub fn put_rows(cells: &mut List<List<Fraction>>, mut changes: Vec<Option<List<F
 /// What becomes of each row in the written pivot at a row and a column, or None where it does not fit.
 pub fn pivot_changes(
     alloc: Global,
-    cells: &[List<Fraction>],
+    cells: &[TableauRow],
     place: usize,
     column: usize,
-) -> Result<Option<Vec<Option<List<Fraction>>>>, AllocError>
+) -> Result<Option<Vec<Option<TableauRow>>>, AllocError>
     requires place { place < length cells.now }
     requires column { column < length (row_of cells.now place) }
     requires sizes { (i : ℕ) → i < length cells.now → length (row_of cells.now i) ≡ length (row_of cells.now place) }
@@ -161,10 +166,10 @@ pub fn pivot_changes(
     ensures changes { IfOk result (λ found. IfSome found (λ changes. ArePivotChanges changes.items cells.now place column)) }
     ensures none { IfOk result (λ found. IfNone found (PivotFits cells.now place column → ⊥)) }
 {
-    let row = cells[place].as_slice();
-    let pivot = row[column];
+    let row = &cells[place];
+    let pivot = row.cell(column);
     let Some(shares) = shares_of(alloc, row, column, pivot)? else {
         return Ok(None);
     };
-    changes_of(alloc, cells, place, shares.as_slice(), column, pivot)
+    changes_of(alloc, cells, place, &shares, column, pivot)
 }

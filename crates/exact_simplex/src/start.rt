@@ -1,33 +1,53 @@
 //! The start tableau of a program in a box.
 ghost use Rattle.std.specs.Prelude.{◌≡◌, ℕ, ◌+◌, ◌<◌, ◌≤◌, ◌^◌, ◌-ℤ◌, pos, suc, unsigned_abs, IfOk, length, slice_index};
 ghost use Rattle.ip_model.specs.Points.{IsBoxOf};
-ghost use Rattle.exact_simplex.specs.Beginning.{IsWholeRow, ShowsForm};
+ghost use Rattle.exact_simplex.specs.Beginning.{IsWholeRow, ShowsForm, single_form};
 ghost use Rattle.exact_simplex.specs.Cells.{row_of, Shows};
 ghost use Rattle.exact_simplex.specs.Forms.{costs, form_at, forms_of, parts_of, room, step, surplus};
 ghost use Rattle.exact_simplex.specs.Start.{start_of};
 
-use crate::lows::{cost_slopes, costs_at_lows, factor_slopes, single_slope, terms_at_lows};
+use crate::lows::{cost_slopes, costs_at_lows, factor_slopes, terms_at_lows};
+use crate::merge::keep;
 use crate::table::Tableau;
-use exact_fraction::{Fraction, whole};
+use crate::tableau_row::TableauRow;
+use exact_fraction::whole;
 use ip_model::{Bounds, Program};
 use ras_table::List;
 use std::alloc::{AllocError, Global};
 
 /// The row of a value and slopes.
-fn whole_row(alloc: Global, value: i64, slopes: &[i64]) -> Result<List<Fraction>, AllocError>
+fn whole_row(alloc: Global, value: i64, slopes: &[i64]) -> Result<TableauRow, AllocError>
     requires { length slopes.now < 2 ^ 31 }
     ensures { IfOk result (λ row. IsWholeRow row value slopes.now) }
 {
-    let mut row = Vec::with_capacity(alloc, slopes.len())?;
-    row.push(whole(value))?;
-    for slope in slopes {
-        row.push(whole(*slope))?;
+    let mut kept = Vec::new(alloc);
+    keep(&mut kept, 0, whole(value))?;
+    for (k, slope) in slopes.iter().enumerate() {
+        keep(&mut kept, k as u32 + 1, whole(*slope))?;
     }
-    Ok(List::from_vec(row))
+    Ok(TableauRow::of(slopes.len() as u32 + 1, kept))
+}
+
+/// The row of a value and one factor.
+fn single_row(
+    alloc: Global,
+    columns: u32,
+    value: i64,
+    place: u32,
+    factor: i64,
+) -> Result<TableauRow, AllocError>
+    requires few { columns < 2 ^ 31 }
+    requires place { place < columns }
+    ensures { IfOk result (λ row. ShowsForm columns row (single_form value place factor)) }
+{
+    let mut kept = Vec::with_capacity(alloc, 2)?;
+    keep(&mut kept, 0, whole(value))?;
+    keep(&mut kept, place + 1, whole(factor))?;
+    Ok(TableauRow::of(columns + 1, kept))
 }
 
 /// The row of the costs.
-fn cost_row(alloc: Global, program: &Program, bounds: &Bounds) -> Result<List<Fraction>, AllocError>
+fn cost_row(alloc: Global, program: &Program, bounds: &Bounds) -> Result<TableauRow, AllocError>
     requires { IsBoxOf program.now bounds.now }
     ensures { IfOk result (λ row. ShowsForm (length program.now.columns) row (form_at (parts_of program.now bounds.now) costs)) }
 {
@@ -44,14 +64,11 @@ fn step_row(
     program: &Program,
     bounds: &Bounds,
     j: usize,
-) -> Result<List<Fraction>, AllocError>
+) -> Result<TableauRow, AllocError>
     requires { j < length program.now.columns }
     ensures { IfOk result (λ row. ShowsForm (length program.now.columns) row (form_at (parts_of program.now bounds.now) (step j))) }
 {
-    let columns = program.columns.as_slice();
-    let slopes = single_slope(alloc, columns.len(), j, 1)?;
-    let given = slopes.as_slice();
-    whole_row(alloc, 0, given)
+    single_row(alloc, program.columns.len(), 0, j as u32, 1)
 }
 
 /// How far a sum lies above what its row asks.
@@ -77,7 +94,7 @@ fn surplus_row(
     program: &Program,
     bounds: &Bounds,
     i: usize,
-) -> Result<List<Fraction>, AllocError>
+) -> Result<TableauRow, AllocError>
     requires is_box { IsBoxOf program.now bounds.now }
     requires row { i < length program.now.rows }
     ensures { IfOk result (λ row. ShowsForm (length program.now.columns) row (form_at (parts_of program.now bounds.now) (surplus i))) }
@@ -100,16 +117,13 @@ fn room_row(
     program: &Program,
     bounds: &Bounds,
     j: usize,
-) -> Result<List<Fraction>, AllocError>
+) -> Result<TableauRow, AllocError>
     requires is_box { IsBoxOf program.now bounds.now }
     requires column { j < length program.now.columns }
     ensures { IfOk result (λ row. ShowsForm (length program.now.columns) row (form_at (parts_of program.now bounds.now) (room j))) }
 {
-    let columns = program.columns.as_slice();
-    let slopes = single_slope(alloc, columns.len(), j, -1)?;
     let value = width(bounds, j);
-    let given = slopes.as_slice();
-    whole_row(alloc, value, given)
+    single_row(alloc, program.columns.len(), value, j as u32, -1)
 }
 
 /// A row of the start tableau.
@@ -118,7 +132,7 @@ fn start_row(
     program: &Program,
     bounds: &Bounds,
     i: usize,
-) -> Result<List<Fraction>, AllocError>
+) -> Result<TableauRow, AllocError>
     requires is_box { IsBoxOf program.now bounds.now }
     requires row { i < suc (length program.now.columns + length program.now.rows + length program.now.columns) }
     ensures { IfOk result (λ row. ShowsForm (length program.now.columns) row (forms_of (parts_of program.now bounds.now) i)) }
@@ -142,7 +156,7 @@ fn start_rows(
     alloc: Global,
     program: &Program,
     bounds: &Bounds,
-) -> Result<List<List<Fraction>>, AllocError>
+) -> Result<List<TableauRow>, AllocError>
     requires { IsBoxOf program.now bounds.now }
     ensures size { IfOk result (λ cells. length cells ≡ suc (length program.now.columns + length program.now.rows + length program.now.columns)) }
     ensures rows { IfOk result (λ cells. (i : ℕ) → i < length cells → ShowsForm (length program.now.columns) (row_of cells i) (forms_of (parts_of program.now bounds.now) i)) }

@@ -1,7 +1,7 @@
 //! Tableaus of fractions.
 ghost use Rattle.exact_simplex.specs.Shapes.{HasShape};
 
-use exact_fraction::Fraction;
+use crate::tableau_row::TableauRow;
 use ras_table::List;
 
 /// A tableau of the written simplex method, over exact fractions.
@@ -11,7 +11,7 @@ use ras_table::List;
 /// the rows' factors of one unit row.
 #[derive(Drop)]
 pub struct Tableau {
-    pub(crate) cells: List<List<Fraction>>,
+    pub(crate) cells: List<TableauRow>,
     pub(crate) units: List<u32>,
     pub ghost shape: { HasShape cells units },
 }

@@ -1,5 +1,5 @@
-use Rattle.exact_simplex.proofs.Pushes.{WholeSoFar}
+use Rattle.exact_simplex.proofs.Pushes.{WholeUpTo}
 use Rattle.exact_simplex.proofs.start.whole_row.Given as goal
 
-abbrev pub invariant-loop-slope : goal.invariant-loop-slope
-invariant-loop-slope l = WholeSoFar l.value l.slopes l.row.items l.slope-index
+abbrev pub invariant-loop-k : goal.invariant-loop-k
+invariant-loop-k l = WholeUpTo l.value l.slopes l.kept.items l.k
