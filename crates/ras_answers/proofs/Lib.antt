@@ -4,3 +4,4 @@ pub mod JoinLemmas
 pub mod ShapeLemmas
 pub mod MoveLemmas
 pub mod SolveLemmas
+pub mod SampleLemmas

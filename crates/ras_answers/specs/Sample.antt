@@ -24,9 +24,12 @@ pub record IsSummary (region : Region) (case : Case) (a : Answered) : Type 0 whe
   pub printed : a ≡ Printed (ending_at document.answer) (sample_text (length region.servers) (length region.boards) document)
 
 -- the files are those that the texts of a sample say, and the text is that of a document of the case that they join to
-pub record SampleAnswers (number size : ℕ) (a : Answered) : Type 0 where
+pub record IsSampleOf (number size : ℕ) (a : Answered) : Type 0 where
   pub files : CaseFiles
   pub read : AreCaseFiles (inventory_text number size) (requests_text size) (bindings_text number size) files
   pub case : Case
   pub joined : IsJoined files.region files.requests files.bindings case
   pub summary : IsSummary files.region case a
+
+unfoldable pub SampleAnswers : ℕ → ℕ → Answered → Type 0
+SampleAnswers number size a = IsSampleOf number size a
