@@ -207,3 +207,34 @@ right_zero_product a b c d first second none =
       fits = fits_product a b (pos 0) (pos 1) 1 (unsigned_abs b) a (pos 0) (pos 1) (pos 1) found (subst IsSmall (sym (times_none a)) small_none) small_one;
       value = ratio_product a b (pos 0) (pos 1) 1 (unsigned_abs b) a (pos 0) (pos 1) (pos 1) (pos 0) (pos 1) found (sym (times_none a)) refl;
     }))
+
+-- whole numbers
+pub whole_found : (a b c d : ℤ) → IsLowest a b → IsLowest c d → b ≡ pos 1 → d ≡ pos 1 → ProductFound a b c d 1 1 a c b d
+whole_found a b c d first second is_b is_d = record {
+  first = first;
+  second = second;
+  is_g = subst (λ z. IsGcd (unsigned_abs a) (unsigned_abs z) 1) (sym is_d) (gcd_of_one (unsigned_abs a));
+  some_g = omega arith;
+  is_h = subst (λ z. IsGcd (unsigned_abs c) (unsigned_abs z) 1) (sym is_b) (gcd_of_one (unsigned_abs c));
+  some_h = omega arith;
+  is_x = by_one a;
+  is_y = by_one c;
+  is_z = by_one b;
+  is_w = by_one d;
+}
+
+pub one_is : (b d : ℤ) → b ≡ pos 1 → d ≡ pos 1 → pos 1 ≡ b *ℤ d
+one_is b d is_b is_d = sym (ap (λ z. z *ℤ d) is_b ∙ ap (λ z. pos 1 *ℤ z) is_d)
+
+pub one_small : (b d : ℤ) → b ≡ pos 1 → d ≡ pos 1 → IsSmall (b *ℤ d)
+one_small b d is_b is_d = subst IsSmall (one_is b d is_b is_d) small_one
+
+pub whole_top : (a b c d top : ℤ) → IsLowest a b → IsLowest c d → b ≡ pos 1 → d ≡ pos 1 → IsSmall (a +ℤ c) → top ≡ a +ℤ c → TopFound a b c d (unsigned_abs b) (pos 1) (pos 1) top 1 d
+whole_top a b c d top first second is_b is_d small is_top =
+    alike_top a b c d top (unsigned_abs b) 1 d first second (is_b ∙ sym is_d) small is_top refl (subst (λ z. IsGcd (unsigned_abs top) (unsigned_abs z) 1) (sym is_b) (gcd_of_one (unsigned_abs top))) (omega arith) (by_one d)
+
+pub whole_lowest : (n m : ℤ) → IsSmall m → n ≡ m → IsLowest n (pos 1)
+whole_lowest n m h is = record { num_small = subst IsSmall (sym is) h; den_small = small_one; den_is = refl; den_above_none = omega arith; lowest = gcd_of_one (unsigned_abs n) }
+
+pub whole_rest : (d : ℤ) → d ≡ pos 1 → IsSmall (pos 1 *ℤ d)
+whole_rest d is = subst IsSmall (ap (λ z. pos 1 *ℤ z) (sym is)) small_one

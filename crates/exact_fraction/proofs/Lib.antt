@@ -8,3 +8,4 @@ pub mod Compares
 pub mod SignedCompares
 pub mod Fast
 pub mod LawLemmas
+pub mod Twos

@@ -47,6 +47,20 @@ impl Fraction {
         })
     }
 
+    /// The sum of two whole numbers.
+    fn add_whole(self, other: Fraction) -> Option<Fraction>
+        requires own { self.den ≡ pos 1 }
+        requires their { other.den ≡ pos 1 }
+        ensures value { IfSome result (λ f. IsRatio f.num f.den (self.num *ℤ other.den +ℤ other.num *ℤ self.den) (self.den *ℤ other.den)) }
+        ensures fits { IfSome result (λ f. SumFits self.num self.den other.num other.den) }
+        ensures none { IfNone result (SumFits self.num self.den other.num other.den → ⊥) }
+    {
+        match sum(self.num, other.num) {
+            Some(num) => Some(Fraction { num, den: 1 }),
+            None => None,
+        }
+    }
+
     /// The sum, by the written intermediates.
     fn add_apart(self, other: Fraction) -> Option<Fraction>
         ensures value { IfSome result (λ f. IsRatio f.num f.den (self.num *ℤ other.den +ℤ other.num *ℤ self.den) (self.den *ℤ other.den)) }
@@ -76,6 +90,9 @@ impl Fraction {
         ensures fits { IfSome result (λ f. SumFits self.num self.den other.num other.den) }
         ensures none { IfNone result (SumFits self.num self.den other.num other.den → ⊥) }
     {
+        if self.den == 1 && other.den == 1 {
+            return self.add_whole(other);
+        }
         if self.num == 0 {
             return Some(other);
         }
@@ -86,6 +103,20 @@ impl Fraction {
             self.add_alike(other)
         } else {
             self.add_apart(other)
+        }
+    }
+
+    /// The product of two whole numbers.
+    fn mul_whole(self, other: Fraction) -> Option<Fraction>
+        requires own { self.den ≡ pos 1 }
+        requires their { other.den ≡ pos 1 }
+        ensures value { IfSome result (λ f. IsRatio f.num f.den (self.num *ℤ other.num) (self.den *ℤ other.den)) }
+        ensures fits { IfSome result (λ f. ProductFits self.num self.den other.num other.den) }
+        ensures none { IfNone result (ProductFits self.num self.den other.num other.den → ⊥) }
+    {
+        match product(self.num, other.num) {
+            Some(num) => Some(Fraction { num, den: 1 }),
+            None => None,
         }
     }
 
@@ -114,6 +145,9 @@ impl Fraction {
         ensures fits { IfSome result (λ f. ProductFits self.num self.den other.num other.den) }
         ensures none { IfNone result (ProductFits self.num self.den other.num other.den → ⊥) }
     {
+        if self.den == 1 && other.den == 1 {
+            return self.mul_whole(other);
+        }
         if self.num == 0 {
             return Some(self);
         }
@@ -191,10 +225,8 @@ impl Fraction {
         self.mul(other.reciprocal())
     }
 
-    /// The order of the numbers, for all pairs.
-    ///
-    /// It goes by the whole parts, and then by quotients and remainders of the rests, so nothing passes 128 bits.
-    pub fn cmp(self, other: Fraction) -> Ordering
+    /// The order by the whole parts, and then by quotients and remainders of the rests, so nothing passes 128 bits.
+    fn cmp_apart(self, other: Fraction) -> Ordering
         ensures { result ≡ int_cmp (self.num *ℤ other.den) (other.num *ℤ self.den) }
     {
         let own = self.num.div_euclid(self.den);
@@ -210,6 +242,16 @@ impl Fraction {
                 other.num.rem_euclid(other.den).unsigned_abs(),
                 other.den.unsigned_abs(),
             )
+        }
+    }
+
+    /// The order of the numbers, for all pairs: by the two products where they fit.
+    pub fn cmp(self, other: Fraction) -> Ordering
+        ensures { result ≡ int_cmp (self.num *ℤ other.den) (other.num *ℤ self.den) }
+    {
+        match (product(self.num, other.den), product(other.num, self.den)) {
+            (Some(own), Some(their)) => own.cmp(&their),
+            _ => self.cmp_apart(other),
         }
     }
 }

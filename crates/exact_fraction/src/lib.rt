@@ -8,6 +8,7 @@
 mod compare;
 mod euclid;
 mod fraction;
+mod halves;
 mod laws;
 mod macros;
 mod small;

@@ -18,13 +18,29 @@ pub fn kept(n: i128) -> Option<i128>
     }
 }
 
+/// The product of numbers that 64 bits hold.
+fn narrow_product(a: i64, b: i64) -> i128
+    ensures value { result ≡ a *ℤ b }
+    ensures small { IsSmall result }
+{
+    i128::from(a) * i128::from(b)
+}
+
 /// The product, where its magnitude is at most 2^126.
 pub fn product(a: i128, b: i128) -> Option<i128>
     ensures { SomeIff result (IsSmall (a *ℤ b)) (a *ℤ b) }
 {
-    match a.checked_mul(b) {
-        Some(n) => kept(n),
-        None => None,
+    if -0x8000_0000_0000_0000 <= a
+        && a <= 0x7fff_ffff_ffff_ffff
+        && -0x8000_0000_0000_0000 <= b
+        && b <= 0x7fff_ffff_ffff_ffff
+    {
+        Some(narrow_product(a as i64, b as i64))
+    } else {
+        match a.checked_mul(b) {
+            Some(n) => kept(n),
+            None => None,
+        }
     }
 }
 
@@ -45,7 +61,16 @@ pub fn quotient(n: i128, g: u128) -> i128
     requires most { g ≤ 2 ^ 126 }
     ensures { result ≡ int_div n (pos g) }
 {
-    if g == 1 { n } else { n / g as i128 }
+    if g == 1 {
+        n
+    } else if -0x7fff_ffff_ffff_ffff <= n
+        && n <= 0x7fff_ffff_ffff_ffff
+        && g <= 0x7fff_ffff_ffff_ffff
+    {
+        i128::from(n as i64 / g as i64)
+    } else {
+        n / g as i128
+    }
 }
 
 /// The sum of two products, where neither they nor it passes 2^126.

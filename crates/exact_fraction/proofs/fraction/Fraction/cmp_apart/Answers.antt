@@ -2,7 +2,7 @@ use Rattle.std.proofs.Common.{rules, FitsSigned, to_z-of_z, arith, ◌≡◌, �
 use Rattle.std.proofs.lemmas.Int.{ints}
 use Rattle.std.specs.Int.{w128, int_rem_euclid}
 use Rattle.exact_fraction.proofs.SignedCompares.{found_of, when_less, when_greater, by_rests, four_same}
-use Rattle.exact_fraction.proofs.fraction.Fraction.cmp.Goals as goal
+use Rattle.exact_fraction.proofs.fraction.Fraction.cmp_apart.Goals as goal
 
 pub returns-then-own-their : goal.returns-then-own-their
 returns-then-own-their c =
