@@ -1,5 +1,5 @@
 -- The cells of a pivot: from the contracts of the operations, and to the tableau over one denominator.
-use Rattle.std.proofs.Common.{◌≡◌, ℕ, zero, suc, ◌≤◌, ℤ, pos, ◌-ℤ◌, ◌*ℤ◌, ◌<ℤ◌, refl, sym, ap, subst, ◌∙◌, arith, Bool, true, false, ◌==◌, if◌then◌else◌, Option, Some, None, IfSome, inl, inr}
+use Rattle.std.proofs.Common.{◌≡◌, ℕ, zero, suc, ◌≤◌, ℤ, pos, ◌-ℤ◌, ◌*ℤ◌, ◌<ℤ◌, refl, sym, ap, subst, ◌∙◌, arith, Bool, true, false, ◌==◌, if◌then◌else◌, inl, inr}
 use Rattle.std.proofs.lemmas.Int.{ints}
 use Rattle.std.proofs.lemmas.Bool.Decides.{eqb_tells}
 use Rattle.exact_fraction.specs.declared.fraction.Fraction.{Fraction}
@@ -7,7 +7,7 @@ use Rattle.exact_fraction.specs.Sizes.{IsLowest}
 use Rattle.exact_fraction.specs.Exact.{IsRatio}
 use Rattle.exact_simplex.specs.Tableaus.{Scaled, pivot_of}
 use Rattle.exact_simplex.specs.Cells.{number_at}
-use Rattle.exact_simplex.specs.Pivots.{IsQuotient, IsProduct}
+use Rattle.exact_simplex.specs.Pivots.{CellFits, IsQuotient, IsProduct}
 use Rattle.exact_simplex.specs.Changes.{ShareFor, IsTaken, CellFor}
 use Rattle.exact_simplex.proofs.Ring.{mul_assoc, mul_comm, none_times, both_ways, less_none, none_less, turn_middle}
 use Rattle.exact_simplex.proofs.Order.{above_product}
@@ -22,26 +22,28 @@ pub dens_above : (f g : Fraction) → pos 0 <ℤ (f.den *ℤ g.den)
 dens_above f g = above_product f.den g.den (den_above f.num f.den f.lowest) (den_above g.num g.den g.lowest)
 
 -- a share of 0 takes nothing off
-pub nothing_taken : (old factor share : Fraction) → share.num ≡ pos 0 → IsTaken old old factor share
-nothing_taken old factor share none = record {
+pub nothing_taken : (old factor share : Fraction) → share.num ≡ pos 0 → CellFits old factor share → IsTaken old old factor share
+nothing_taken old factor share none fits = record {
   scaled = λ a b c d p above_d above_p is_old is_factor is_share.
       let gone : c *ℤ share.den ≡ pos 0 = sym is_share ∙ ap (λ z. z *ℤ p) none ∙ none_times p in
       let zero_c : c ≡ pos 0 = factor_none c share.den (den_above share.num share.den share.lowest) gone in
       sym (mul_assoc old.num d p) ∙ ap (λ z. z *ℤ p) is_old ∙ turn_middle a old.den p ∙ ap (λ z. z *ℤ old.den) (sym (less_none a p b) ∙ ap (λ z. a *ℤ p -ℤ b *ℤ z) (sym zero_c));
+  fits = fits;
 }
 
 middle : (a d p : ℤ) → (a *ℤ p) *ℤ d ≡ (a *ℤ d) *ℤ p
 middle a d p = turn_middle a p d
 
-pub taken_off_cell : (new old factor share change : Fraction) → IsProduct change factor share → IsRatio new.num new.den (old.num *ℤ change.den -ℤ change.num *ℤ old.den) (old.den *ℤ change.den) → IsTaken new old factor share
-taken_off_cell new old factor share change is_change is_new = record {
+pub taken_off_cell : (new old factor share change : Fraction) → IsProduct change factor share → IsRatio new.num new.den (old.num *ℤ change.den -ℤ change.num *ℤ old.den) (old.den *ℤ change.den) → CellFits old factor share → IsTaken new old factor share
+taken_off_cell new old factor share change is_change is_new fits = record {
   scaled = λ a b c d p above_d above_p is_old is_factor is_share.
       let product = product_cell change.num change.den factor.num factor.den share.num share.den b d c p (dens_above factor share) is_change is_factor is_share in
       let wide : old.num *ℤ (d *ℤ p) ≡ (a *ℤ p) *ℤ old.den = sym (mul_assoc old.num d p) ∙ ap (λ z. z *ℤ p) is_old ∙ turn_middle a old.den p in
       difference_cell new.num new.den old.num old.den change.num change.den (a *ℤ p) (b *ℤ c) (d *ℤ p) (dens_above old change) is_new wide product;
+  fits = fits;
 }
 
-quotient_above : (f g : Fraction) → pos 0 <ℤ g.num → pos 0 <ℤ (f.den *ℤ g.num)
+pub quotient_above : (f g : Fraction) → pos 0 <ℤ g.num → pos 0 <ℤ (f.den *ℤ g.num)
 quotient_above f g above = above_product f.den g.num (den_above f.num f.den f.lowest) above
 
 -- the quotient of two numbers over one scale
@@ -105,10 +107,10 @@ after_own t r k i c h =
 
 pub cell_changed : (n : ℕ) (t : Scaled) (r k i c : ℕ) (pivot new old factor share cell : Fraction) → Pivoting n t r k pivot → (own : Bool) → (c == suc k) ≡ own → ShareFor own share cell pivot → CellFor own new old factor share pivot → IsRatio old.num old.den (number_at t i c) (pos t.scale) → IsRatio factor.num factor.den (t.factor i k) (pos t.scale) → IsRatio cell.num cell.den (number_at t r c) (pos t.scale) → IsRatio new.num new.den (number_at (pivot_of t r k) i c) (pos (pivot_of t r k).scale)
 cell_changed n t r k i c pivot new old factor share cell h true own is_share is_new is_old is_factor is_cell =
-    let quotient = quotient_over new factor pivot (t.factor i k) (t.factor r k) (pos t.scale) h.pivot_above (scale_above t.scale h.scale) is_new is_factor h.pivot_is in
+    let quotient = quotient_over new factor pivot (t.factor i k) (t.factor r k) (pos t.scale) h.pivot_above (scale_above t.scale h.scale) is_new.0 is_factor h.pivot_is in
     ap (λ z. new.num *ℤ z) (scale_is t.scale (t.factor r k) h.above ∙ mul_comm (pos t.scale) (t.factor r k)) ∙ sym (mul_assoc new.num (t.factor r k) (pos t.scale)) ∙ ap (λ z. z *ℤ pos t.scale) quotient ∙ turn_middle (t.factor i k) new.den (pos t.scale) ∙ ap (λ z. z *ℤ new.den) (sym (after_own t r k i c own))
 cell_changed n t r k i c pivot new old factor share cell h false own is_share is_new is_old is_factor is_cell =
-    let quotient = quotient_over share cell pivot (number_at t r c) (t.factor r k) (pos t.scale) h.pivot_above (scale_above t.scale h.scale) is_share is_cell h.pivot_is in
+    let quotient = quotient_over share cell pivot (number_at t r c) (t.factor r k) (pos t.scale) h.pivot_above (scale_above t.scale h.scale) is_share.0 is_cell h.pivot_is in
     let at = is_new.scaled (number_at t i c) (t.factor i k) (number_at t r c) (pos t.scale) (t.factor r k) (scale_above t.scale h.scale) h.above is_old is_factor quotient in
     ap (λ z. new.num *ℤ z) (scale_is t.scale (t.factor r k) h.above) ∙ at ∙ ap (λ z. z *ℤ new.den) (sym (after_other t r k i c own))
 
@@ -128,7 +130,3 @@ cell_unit n t r k c pivot new h true own is_num is_den =
     ap (λ z. new.num *ℤ z) (scale_is t.scale (t.factor r k) h.above) ∙ one_over new.num new.den (pos t.scale) (t.factor r k) is_num is_den ∙ ap (λ z. z *ℤ new.den) (sym (after_own t r k r c own))
 cell_unit n t r k c pivot new h false own is_num is_den =
     ap (λ z. z *ℤ pos (pivot_of t r k).scale) is_num ∙ none_times (pos (pivot_of t r k).scale) ∙ sym (ap (λ z. z *ℤ new.den) (after_other t r k r c own ∙ both_ways (t.factor r k) (number_at t r c)) ∙ none_times new.den)
-
-pub taken_when : (found : Option Fraction) (old factor share change : Fraction) → IsProduct change factor share → IfSome found (λ new. IsRatio new.num new.den (old.num *ℤ change.den -ℤ change.num *ℤ old.den) (old.den *ℤ change.den)) → IfSome found (λ new. IsTaken new old factor share)
-taken_when None old factor share change is_change is_new = is_new
-taken_when (Some new) old factor share change is_change is_new = taken_off_cell new old factor share change is_change is_new

@@ -1,15 +1,15 @@
 -- The unit that a choice holds.
-use Rattle.std.proofs.Common.{◌≡◌, ℕ, suc, ◌<◌, ◌≤◌, ℤ, pos, ◌*ℤ◌, ◌<ℤ◌, ◌≤ℤ◌, refl, sym, ap, subst, ◌∙◌, arith, Bool, true, false, Option, Some, None, List, length, inl, inr}
+use Rattle.std.proofs.Common.{◌≡◌, ℕ, suc, ◌<◌, ◌≤◌, ℤ, pos, ◌+ℤ◌, ◌-ℤ◌, ◌*ℤ◌, ◌<ℤ◌, ◌≤ℤ◌, refl, sym, ap, subst, ◌∙◌, arith, Bool, true, false, Option, Some, None, List, length, inl, inr}
 use Rattle.std.proofs.lemmas.Int.{ints}
 use Rattle.std.proofs.lemmas.Bool.{ne_eqb}
 use Rattle.std.proofs.lemmas.Bool.Decides.{eqb_tells}
 use Rattle.exact_fraction.specs.declared.fraction.Fraction.{Fraction}
 use Rattle.exact_fraction.specs.Exact.{IsRatio}
 use Rattle.exact_simplex.specs.Tableaus.{Scaled, IsPivotPlace}
-use Rattle.exact_simplex.specs.Cells.{cell_of, row_of}
-use Rattle.exact_simplex.specs.Choices.{SameQuotients, IsBefore, ComparisonGives, ShowsPair, IsCandidate, FirstCandidate, IsHeld, IsSetting, NextGives}
+use Rattle.exact_simplex.specs.Cells.{cell_of, row_of, number_at}
+use Rattle.exact_simplex.specs.Choices.{ChoiceFits, CompareFits, SameQuotients, IsBefore, ComparisonGives, ShowsPair, IsCandidate, FirstCandidate, IsHeld, IsSetting, NextGives}
 use Rattle.exact_simplex.proofs.Ring.{none_times}
-use Rattle.exact_simplex.proofs.Order.{above_product}
+use Rattle.exact_simplex.proofs.Order.{above_product, first_above-add}
 use Rattle.exact_simplex.proofs.Choice.{before_chain, factor_above}
 use Rattle.exact_simplex.proofs.CellSteps.{den_above, own_column}
 
@@ -82,20 +82,56 @@ taken n cells t r k l h there q held above before = record {
       ];
 }
 
-pub next_same : (n : ℕ) (cells : List (List Fraction)) (t : Scaled) (r k l : ℕ) → IsHeld cells t r l k → (IsCandidate cells r (suc l) → ⊥) → IsHeld cells t r (suc l) k
-next_same n cells t r k l h none = kept cells t r k l h (λ above. absurd (none above))
+-- one unit is held
+opposite : (x y : ℤ) → pos 0 <ℤ ((x -ℤ y) +ℤ (y -ℤ x)) → ⊥
+opposite x y h = omega (arith, ints)
+
+one_before : (t : Scaled) (r k l : ℕ) → IsBefore t r k l → IsBefore t r l k → ⊥
+one_before t r k l h g =
+    let both = first_above-add (λ i. number_at t i l *ℤ number_at t r k -ℤ number_at t i k *ℤ number_at t r l) (λ i. number_at t i k *ℤ number_at t r l -ℤ number_at t i l *ℤ number_at t r k) h g in
+    opposite (number_at t both.first l *ℤ number_at t r k) (number_at t both.first k *ℤ number_at t r l) both.above
+
+pub held_same : (cells : List (List Fraction)) (t : Scaled) (r l k m : ℕ) → IsHeld cells t r l k → IsHeld cells t r l m → m ≡ k
+held_same cells t r l k m h g =
+    elim (eqb_tells m k) [
+      | inl x ↦ x.1
+      | inr x ↦ absurd (one_before t r (suc k) (suc m) (h.first m g.column x.1 g.candidate) (g.first k h.column (λ e. x.1 (sym e)) h.candidate))
+    ]
+
+-- the comparisons with one more unit fit
+choice_more : (cells : List (List Fraction)) (t : Scaled) (r l k : ℕ) → IsHeld cells t r l k → (IsCandidate cells r (suc l) → CompareFits cells t r (suc k) (suc l)) → ChoiceFits l cells t r → ChoiceFits (suc l) cells t r
+choice_more cells t r l k held fits before = record {
+  at = λ j m p is above. elim (eqb_tells m l) [
+    | inl x ↦
+        let there : IsHeld cells t r l j = subst (λ (y : ℕ). IsHeld cells t r y j) x.1 is in
+        subst (λ (y : ℕ). CompareFits cells t r (suc j) (suc y)) (sym x.1) (subst (λ (y : ℕ). CompareFits cells t r (suc y) (suc l)) (sym (held_same cells t r l k j held there)) (fits (subst (λ (y : ℕ). IsCandidate cells r (suc y)) x.1 above)))
+    | inr x ↦ before.at j m (below_suc m l p x.1) is above
+  ];
+}
+
+-- no comparison up to the first candidate
+pub first_fits : (cells : List (List Fraction)) (t : Scaled) (r n first : ℕ) → FirstCandidate (Some first) cells r n → ChoiceFits (suc first) cells t r
+first_fits cells t r n first h = record { at = λ k l p held above. absurd (h.2 k (let c = held.column in omega arith) held.candidate) }
+
+pub next_same : (n : ℕ) (cells : List (List Fraction)) (t : Scaled) (r k l : ℕ) → IsHeld cells t r l k → (IsCandidate cells r (suc l) → ⊥) → IsHeld cells t r (suc l) k × (ChoiceFits l cells t r → ChoiceFits (suc l) cells t r)
+next_same n cells t r k l h none = (kept cells t r k l h (λ above. absurd (none above)), choice_more cells t r l k h (λ above. absurd (none above)))
 
 pub next_gives : (found : Option Bool) (n : ℕ) (cells : List (List Fraction)) (t : Scaled) (r k l : ℕ) → IsSetting n cells t → r < length cells → l < n → IsHeld cells t r l k → IsCandidate cells r (suc l) → ((m : ℕ) (s : Scaled) → ShowsPair m cells s r (suc k) (suc l) → ComparisonGives found cells s r (suc k) (suc l)) → NextGives (next_of found k l) n cells t r l
 next_gives None n cells t r k l h there q held above gives = λ fits. gives n t (pair_of n cells t r k l h there (let c = held.column in omega arith) q held.candidate above) (fits.at k l q held above)
-next_gives (Some true) n cells t r k l h there q held above gives = taken n cells t r k l h there q held above (gives n t (pair_of n cells t r k l h there (let c = held.column in omega arith) q held.candidate above))
+next_gives (Some true) n cells t r k l h there q held above gives =
+    let found = gives n t (pair_of n cells t r k l h there (let c = held.column in omega arith) q held.candidate above) in
+    (taken n cells t r k l h there q held above found.0, choice_more cells t r l k held (λ _. found.1))
 next_gives (Some false) n cells t r k l h there q held above gives =
     let c = held.column in
     let in_k : k < n = omega arith in
-    kept cells t r k l held (λ _.
-    elim (gives n t (pair_of n cells t r k l h there in_k q held.candidate above)) [
-      | inl before ↦ before
-      | inr same ↦ absurd (differ n cells t r k l h in_k q (λ e. omega arith) (candidate_above n cells t r l h there q above) same)
-    ])
+    let found = gives n t (pair_of n cells t r k l h there in_k q held.candidate above) in (
+      kept cells t r k l held (λ _.
+          elim found.0 [
+            | inl before ↦ before
+            | inr same ↦ absurd (differ n cells t r k l h in_k q (λ e. omega arith) (candidate_above n cells t r l h there q above) same)
+          ]),
+      choice_more cells t r l k held (λ _. found.1),
+    )
 
 pub first_held : (cells : List (List Fraction)) (t : Scaled) (r n first : ℕ) → FirstCandidate (Some first) cells r n → IsHeld cells t r (suc first) first
 first_held cells t r n first h = record {

@@ -36,5 +36,16 @@ pub mod WeightSteps
 pub mod RoundingSteps
 pub mod StopSteps
 pub mod Raises
+pub mod LicenceSteps
+pub mod LastSteps
 pub mod KeptFacts
+pub mod FitFacts
 pub mod MergeFacts
+pub mod MovedSums
+pub mod Moved
+pub mod ShiftSteps
+pub mod StepFacts
+pub mod Totals
+pub mod ShiftPlaces
+pub mod CopyFacts
+pub mod ReboundSteps

@@ -1,5 +1,5 @@
 -- Rows that are made cell by cell, by rising column.
-use Rattle.std.proofs.Common.{◌≡◌, ◌≢◌, ℕ, suc, ◌<◌, ◌≤◌, ◌∙◌, ap, refl, sym, subst, arith, ◌==◌, Bool, true, false, List, [], ◌∷◌, length, ℤ, pos, ◌*ℤ◌, ◌-ℤ◌, inl, inr}
+use Rattle.std.proofs.Common.{◌≡◌, ◌≢◌, ℕ, suc, ◌<◌, ◌≤◌, ◌∙◌, ap, refl, sym, subst, arith, ◌==◌, Bool, true, false, List, [], ◌∷◌, length, ℤ, pos, ◌*ℤ◌, ◌-ℤ◌, ◌<ℤ◌, inl, inr}
 use Rattle.std.proofs.lemmas.Bool.{cases_eq, cases_lt, eq-eqb, ne_eqb}
 use Rattle.exact_fraction.specs.declared.fraction.Fraction.{Fraction}
 use Rattle.exact_simplex.specs.Cells.{cell_of, no_fraction}
@@ -8,30 +8,32 @@ use Rattle.exact_simplex.specs.Pivots.{QuotientFits}
 use Rattle.exact_simplex.specs.Kept.{AreBelow, AreKept, HasFirst, IsFirstColumn, IsRising, all_cells, value_of}
 use Rattle.exact_simplex.specs.declared.tableau_row.Kept.{Kept}
 use Rattle.exact_simplex.proofs.CellSteps.{nothing_taken}
+use Rattle.exact_simplex.proofs.FitFacts.{none_over, nothing_fits}
 use Rattle.exact_simplex.proofs.KeptFacts.{below_more, cell_is, head_below, none_above, none_before, size_is, tail_below, value_here, value_later}
 use Rattle.exact_simplex.proofs.Ring.{none_times}
 
 -- ---- cells that are 0
 
-none_shared : (own : Bool) (pivot : Fraction) → ShareFor own no_fraction no_fraction pivot
-none_shared true pivot = refl
-none_shared false pivot = none_times (pos 1 *ℤ pivot.num) ∙ sym (ap (λ (z : ℤ). z *ℤ pos 1) (none_times pivot.den) ∙ none_times (pos 1))
+none_shared : (own : Bool) (pivot : Fraction) → pos 0 <ℤ pivot.num → ShareFor own no_fraction no_fraction pivot
+none_shared true pivot above = refl
+none_shared false pivot above = (none_times (pos 1 *ℤ pivot.num) ∙ sym (ap (λ (z : ℤ). z *ℤ pos 1) (none_times pivot.den) ∙ none_times (pos 1)), none_over pivot above)
 
-none_changed : (own : Bool) (factor pivot : Fraction) → (own ≡ true → factor ≡ no_fraction) → CellFor own no_fraction no_fraction factor no_fraction pivot
-none_changed true factor pivot h = subst (λ (f : Fraction). CellFor true no_fraction no_fraction f no_fraction pivot) (sym (h refl)) (none_times (pos 1 *ℤ pivot.num) ∙ sym (ap (λ (z : ℤ). z *ℤ pos 1) (none_times pivot.den) ∙ none_times (pos 1)))
-none_changed false factor pivot h = nothing_taken no_fraction factor no_fraction refl
+none_changed : (own : Bool) (factor pivot : Fraction) → pos 0 <ℤ pivot.num → (own ≡ true → factor ≡ no_fraction) → CellFor own no_fraction no_fraction factor no_fraction pivot
+none_changed true factor pivot above h = subst (λ (f : Fraction). CellFor true no_fraction no_fraction f no_fraction pivot) (sym (h refl)) (none_times (pos 1 *ℤ pivot.num) ∙ sym (ap (λ (z : ℤ). z *ℤ pos 1) (none_times pivot.den) ∙ none_times (pos 1)), none_over pivot above)
+none_changed false factor pivot above h = nothing_taken no_fraction factor no_fraction refl (nothing_fits no_fraction factor no_fraction refl)
 
 -- ---- a new cell by its number alone
 
 share_as : (own : Bool) (share same cell pivot : Fraction) → same.num ≡ share.num → same.den ≡ share.den → ShareFor own share cell pivot → ShareFor own same cell pivot
 share_as true share same cell pivot num den h = num ∙ h
-share_as false share same cell pivot num den h = ap (λ (z : ℤ). z *ℤ (cell.den *ℤ pivot.num)) num ∙ h ∙ ap (λ (z : ℤ). (cell.num *ℤ pivot.den) *ℤ z) (sym den)
+share_as false share same cell pivot num den h = (ap (λ (z : ℤ). z *ℤ (cell.den *ℤ pivot.num)) num ∙ h.0 ∙ ap (λ (z : ℤ). (cell.num *ℤ pivot.den) *ℤ z) (sym den), h.1)
 
 cell_as : (own : Bool) (new same old factor share pivot : Fraction) → same.num ≡ new.num → same.den ≡ new.den → CellFor own new old factor share pivot → CellFor own same old factor share pivot
-cell_as true new same old factor share pivot num den h = ap (λ (z : ℤ). z *ℤ (factor.den *ℤ pivot.num)) num ∙ h ∙ ap (λ (z : ℤ). (factor.num *ℤ pivot.den) *ℤ z) (sym den)
+cell_as true new same old factor share pivot num den h = (ap (λ (z : ℤ). z *ℤ (factor.den *ℤ pivot.num)) num ∙ h.0 ∙ ap (λ (z : ℤ). (factor.num *ℤ pivot.den) *ℤ z) (sym den), h.1)
 cell_as false new same old factor share pivot num den h = record {
   scaled = λ a b c d p above_d above_p is_old is_factor is_share.
       ap (λ (z : ℤ). z *ℤ (d *ℤ p)) num ∙ h.scaled a b c d p above_d above_p is_old is_factor is_share ∙ ap (λ (z : ℤ). (a *ℤ p -ℤ b *ℤ c) *ℤ z) (sym den);
+  fits = h.fits;
 }
 
 same_column : (c k : ℕ) → (c == k) ≡ true → c ≡ k
@@ -51,6 +53,7 @@ pub record KeptNext (old new : List Kept) (column : ℕ) (value : Fraction) : Ty
 -- ---- the shares of the kept cells so far
 
 pub record SharesUpTo (row : List Fraction) (k : ℕ) (pivot : Fraction) (shares rest : List Kept) : Type 0 where
+  pub above : pos 0 <ℤ pivot.num
   pub from : ℕ
   pub within : from ≤ length row
   pub rest_rises : IsRising from rest
@@ -60,8 +63,9 @@ pub record SharesUpTo (row : List Fraction) (k : ℕ) (pivot : Fraction) (shares
   pub below : AreBelow from shares
   pub done : (c : ℕ) → c < from → ShareFor (c == k) (value_of shares c) (cell_of row c) pivot
 
-pub shares_start : (row : List Fraction) (k : ℕ) (pivot : Fraction) (kept : List Kept) → AreKept (length row) kept → ((c : ℕ) → value_of kept c ≡ cell_of row c) → SharesUpTo row k pivot [] kept
-shares_start row k pivot kept are same = record {
+pub shares_start : (row : List Fraction) (k : ℕ) (pivot : Fraction) (kept : List Kept) → pos 0 <ℤ pivot.num → AreKept (length row) kept → ((c : ℕ) → value_of kept c ≡ cell_of row c) → SharesUpTo row k pivot [] kept
+shares_start row k pivot kept above are same = record {
+  above = above;
   from = 0;
   within = omega arith;
   rest_rises = are.rising;
@@ -72,8 +76,8 @@ shares_start row k pivot kept are same = record {
   done = λ c p. absurd (omega arith);
 }
 
-no_share : (row : List Fraction) (k : ℕ) (pivot : Fraction) (shares : List Kept) (c : ℕ) → value_of shares c ≡ no_fraction → cell_of row c ≡ no_fraction → ShareFor (c == k) (value_of shares c) (cell_of row c) pivot
-no_share row k pivot shares c is_share is_cell = subst (λ (f : Fraction). ShareFor (c == k) f (cell_of row c) pivot) (sym is_share) (subst (λ (f : Fraction). ShareFor (c == k) no_fraction f pivot) (sym is_cell) (none_shared (c == k) pivot))
+no_share : (row : List Fraction) (k : ℕ) (pivot : Fraction) (shares : List Kept) (c : ℕ) → pos 0 <ℤ pivot.num → value_of shares c ≡ no_fraction → cell_of row c ≡ no_fraction → ShareFor (c == k) (value_of shares c) (cell_of row c) pivot
+no_share row k pivot shares c above is_share is_cell = subst (λ (f : Fraction). ShareFor (c == k) f (cell_of row c) pivot) (sym is_share) (subst (λ (f : Fraction). ShareFor (c == k) no_fraction f pivot) (sym is_cell) (none_shared (c == k) pivot above))
 
 head_is : (row : List Fraction) (k : ℕ) (pivot : Fraction) (shares : List Kept) (cell : Kept) (rest : List Kept) → SharesUpTo row k pivot shares (cell ∷ rest) → cell.value ≡ cell_of row cell.column
 head_is row k pivot shares cell rest h = sym (value_here cell rest) ∙ h.rest_is cell.column h.rest_rises.0
@@ -83,6 +87,7 @@ shares_next row k pivot shares new cell rest share h is next =
     let first : h.from ≤ cell.column = h.rest_rises.0 in
     let own : ShareFor (cell.column == k) (value_of new cell.column) (cell_of row cell.column) pivot = share_as (cell.column == k) share (value_of new cell.column) (cell_of row cell.column) pivot next.num next.den (subst (λ (f : Fraction). ShareFor (cell.column == k) share f pivot) (head_is row k pivot shares cell rest h) is) in
     record {
+      above = h.above;
       from = suc cell.column;
       within = head_below (length row) cell rest h.rest_below;
       rest_rises = h.rest_rises.2;
@@ -94,7 +99,7 @@ shares_next row k pivot shares new cell rest share h is next =
         | inl here ↦ subst (λ (m : ℕ). ShareFor (m == k) (value_of new m) (cell_of row m) pivot) (sym here) own
         | inr other ↦ subst (λ (f : Fraction). ShareFor (c == k) f (cell_of row c) pivot) (sym (next.others c other)) (elim (cases_lt c h.from) [
           | inl before ↦ h.done c before
-          | inr after ↦ no_share row k pivot shares c (none_above h.from shares h.below c (omega arith)) (sym (h.rest_is c (omega arith)) ∙ none_before cell.column (cell ∷ rest) (omega arith, h.rest_rises.1, h.rest_rises.2) c (omega arith))
+          | inr after ↦ no_share row k pivot shares c h.above (none_above h.from shares h.below c (omega arith)) (sym (h.rest_is c (omega arith)) ∙ none_before cell.column (cell ∷ rest) (omega arith, h.rest_rises.1, h.rest_rises.2) c (omega arith))
         ])
       ];
     }
@@ -112,13 +117,14 @@ shares_end row k pivot shares size same h =
       size = size_is size shares ∙ same;
       at = λ c p. subst (λ (f : Fraction). ShareFor (c == k) f (cell_of row c) pivot) (cell_is size shares below c) (elim (cases_lt c h.from) [
         | inl before ↦ h.done c before
-        | inr after ↦ no_share row k pivot shares c (none_above h.from shares h.below c (omega arith)) (sym (h.rest_is c (omega arith)))
+        | inr after ↦ no_share row k pivot shares c h.above (none_above h.from shares h.below c (omega arith)) (sym (h.rest_is c (omega arith)))
       ]);
     }
 
 -- ---- the new row so far
 
 pub record RowUpTo (row shares : List Fraction) (k : ℕ) (pivot : Fraction) (left right new : List Kept) : Type 0 where
+  pub above : pos 0 <ℤ pivot.num
   pub from : ℕ
   pub within : from ≤ length row
   pub left_rises : IsRising from left
@@ -131,8 +137,9 @@ pub record RowUpTo (row shares : List Fraction) (k : ℕ) (pivot : Fraction) (le
   pub below : AreBelow from new
   pub done : (c : ℕ) → c < from → CellFor (c == k) (value_of new c) (cell_of row c) (cell_of row k) (cell_of shares c) pivot
 
-pub row_start : (row shares : List Fraction) (k : ℕ) (pivot : Fraction) (left right : List Kept) → length shares ≡ length row → AreKept (length row) left → ((c : ℕ) → value_of left c ≡ cell_of row c) → AreKept (length shares) right → ((c : ℕ) → value_of right c ≡ cell_of shares c) → RowUpTo row shares k pivot left right []
-row_start row shares k pivot left right size left_are left_is right_are right_is = record {
+pub row_start : (row shares : List Fraction) (k : ℕ) (pivot : Fraction) (left right : List Kept) → pos 0 <ℤ pivot.num → length shares ≡ length row → AreKept (length row) left → ((c : ℕ) → value_of left c ≡ cell_of row c) → AreKept (length shares) right → ((c : ℕ) → value_of right c ≡ cell_of shares c) → RowUpTo row shares k pivot left right []
+row_start row shares k pivot left right above size left_are left_is right_are right_is = record {
+  above = above;
   from = 0;
   within = omega arith;
   left_rises = left_are.rising;
@@ -146,12 +153,12 @@ row_start row shares k pivot left right size left_are left_is right_are right_is
   done = λ c p. absurd (omega arith);
 }
 
-no_cell : (row shares : List Fraction) (k : ℕ) (pivot : Fraction) (new : List Kept) (c : ℕ) → value_of new c ≡ no_fraction → cell_of row c ≡ no_fraction → cell_of shares c ≡ no_fraction → CellFor (c == k) (value_of new c) (cell_of row c) (cell_of row k) (cell_of shares c) pivot
-no_cell row shares k pivot new c is_new is_old is_share =
+no_cell : (row shares : List Fraction) (k : ℕ) (pivot : Fraction) (new : List Kept) (c : ℕ) → pos 0 <ℤ pivot.num → value_of new c ≡ no_fraction → cell_of row c ≡ no_fraction → cell_of shares c ≡ no_fraction → CellFor (c == k) (value_of new c) (cell_of row c) (cell_of row k) (cell_of shares c) pivot
+no_cell row shares k pivot new c above is_new is_old is_share =
     subst (λ (f : Fraction). CellFor (c == k) f (cell_of row c) (cell_of row k) (cell_of shares c) pivot) (sym is_new)
     (subst (λ (f : Fraction). CellFor (c == k) no_fraction f (cell_of row k) (cell_of shares c) pivot) (sym is_old)
     (subst (λ (f : Fraction). CellFor (c == k) no_fraction no_fraction (cell_of row k) f pivot) (sym is_share)
-    (none_changed (c == k) (cell_of row k) pivot (λ own. ap (cell_of row) (sym (same_column c k own)) ∙ is_old))))
+    (none_changed (c == k) (cell_of row k) pivot above (λ own. ap (cell_of row) (sym (same_column c k own)) ∙ is_old))))
 
 first_in : (most place : ℕ) (kept : List Kept) → AreBelow most kept → HasFirst place kept → place < most
 first_in most place [] h is = absurd is
@@ -177,6 +184,7 @@ row_next row shares k pivot left right new left_rest right_rest newer place old 
     let is_share : share ≡ cell_of shares place = from_right.value_is ∙ h.right_is place above in
     let own : CellFor (place == k) (value_of newer place) (cell_of row place) (cell_of row k) (cell_of shares place) pivot = cell_as (place == k) cell (value_of newer place) (cell_of row place) (cell_of row k) (cell_of shares place) pivot next.num next.den (subst (λ (f : Fraction). CellFor (place == k) cell f (cell_of row k) (cell_of shares place) pivot) is_old (subst (λ (f : Fraction). CellFor (place == k) cell old (cell_of row k) f pivot) is_share is)) in
     record {
+      above = h.above;
       from = suc place;
       within = first_within row shares k pivot left right new place h first;
       left_rises = from_left.rising;
@@ -191,7 +199,7 @@ row_next row shares k pivot left right new left_rest right_rest newer place old 
         | inl here ↦ subst (λ (m : ℕ). CellFor (m == k) (value_of newer m) (cell_of row m) (cell_of row k) (cell_of shares m) pivot) (sym here) own
         | inr other ↦ subst (λ (f : Fraction). CellFor (c == k) f (cell_of row c) (cell_of row k) (cell_of shares c) pivot) (sym (next.others c other)) (elim (cases_lt c h.from) [
           | inl before ↦ h.done c before
-          | inr after ↦ no_cell row shares k pivot new c (none_above h.from new h.below c (omega arith)) (sym (h.left_is c (omega arith)) ∙ none_before place left (first.left_rises h.from h.left_rises) c (omega arith)) (sym (h.right_is c (omega arith)) ∙ none_before place right (first.right_rises h.from h.right_rises) c (omega arith))
+          | inr after ↦ no_cell row shares k pivot new c h.above (none_above h.from new h.below c (omega arith)) (sym (h.left_is c (omega arith)) ∙ none_before place left (first.left_rises h.from h.left_rises) c (omega arith)) (sym (h.right_is c (omega arith)) ∙ none_before place right (first.right_rises h.from h.right_rises) c (omega arith))
         ])
       ];
     }
@@ -213,7 +221,7 @@ row_end row shares k pivot new size same h =
       size = size_is size new ∙ same;
       at = λ c p. subst (λ (f : Fraction). CellFor (c == k) f (cell_of row c) (cell_of row k) (cell_of shares c) pivot) (cell_is size new below c) (elim (cases_lt c h.from) [
         | inl before ↦ h.done c before
-        | inr after ↦ no_cell row shares k pivot new c (none_above h.from new h.below c (omega arith)) (sym (h.left_is c (omega arith))) (sym (h.right_is c (omega arith)))
+        | inr after ↦ no_cell row shares k pivot new c h.above (none_above h.from new h.below c (omega arith)) (sym (h.left_is c (omega arith))) (sym (h.right_is c (omega arith)))
       ]);
     }
 

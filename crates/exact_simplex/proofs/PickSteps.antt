@@ -1,13 +1,14 @@
 -- Comparisons of two columns' quotients.
-use Rattle.std.proofs.Common.{◌≡◌, ℕ, ◌<◌, ℤ, pos, ◌-ℤ◌, ◌*ℤ◌, ◌<ℤ◌, refl, sym, ap, ◌∙◌, arith, true, false, Some, None, List, length, Ordering, Less, Equal, Greater, inl}
+use Rattle.std.proofs.Common.{◌≡◌, ℕ, ◌<◌, ℤ, pos, ◌-ℤ◌, ◌*ℤ◌, ◌<ℤ◌, refl, sym, ap, ◌∙◌, arith, true, false, Some, None, List, length, Ordering, Less, Equal, Greater, inl, inr, subst}
 use Rattle.std.proofs.lemmas.Int.{ints}
+use Rattle.std.proofs.lemmas.Bool.{cases_eq, cases_lt}
 use Rattle.std.specs.Ordering.{int_cmp, MatchOrdering}
 use Rattle.std.proofs.lemmas.Cmp.{int_ranked}
 use Rattle.exact_fraction.specs.declared.fraction.Fraction.{Fraction}
 use Rattle.exact_simplex.specs.Tableaus.{Scaled}
 use Rattle.exact_simplex.specs.Cells.{cell_of, row_of, number_at}
 use Rattle.exact_simplex.specs.Pivots.{IsQuotient, QuotientFits}
-use Rattle.exact_simplex.specs.Choices.{IsOrderOf, SameQuotients, ComparisonGives, ShowsPair}
+use Rattle.exact_simplex.specs.Choices.{IsOrderOf, SameQuotients, CompareFits, ComparisonGives, ShowsPair}
 use Rattle.exact_simplex.proofs.Ring.{mul_comm, none_times, sub-mul, pair_up}
 use Rattle.exact_simplex.proofs.Order.{above_product}
 use Rattle.exact_simplex.proofs.CellSteps.{den_above, quotient_over}
@@ -49,16 +50,18 @@ order_scaled xn xd yn yd z u w v above_x above_y above_u above_v first second =
     ∙ ap (λ k. int_cmp k ((yn *ℤ xd) *ℤ (u *ℤ v))) left ∙ ap (λ k. int_cmp ((z *ℤ v) *ℤ (xd *ℤ yd)) k) right
     ∙ cmp_scale (z *ℤ v) (w *ℤ u) (xd *ℤ yd) (above_product xd yd above_x above_y)
 
-pub order_found : (order : Ordering) (x y a p b q : Fraction) → pos 0 <ℤ p.num → pos 0 <ℤ q.num → IsQuotient x a p → IsQuotient y b q → order ≡ int_cmp (x.num *ℤ y.den) (y.num *ℤ x.den) → IsOrderOf order a p b q
-order_found order x y a p b q above_p above_q is_x is_y is = record {
+pub order_found : (order : Ordering) (x y a p b q : Fraction) → pos 0 <ℤ p.num → pos 0 <ℤ q.num → IsQuotient x a p → IsQuotient y b q → QuotientFits a p → QuotientFits b q → order ≡ int_cmp (x.num *ℤ y.den) (y.num *ℤ x.den) → IsOrderOf order a p b q
+order_found order x y a p b q above_p above_q is_x is_y fits_x fits_y is = record {
   scaled = λ z u w v d above_d above_u above_v is_a is_p is_b is_q.
       is ∙ order_scaled x.num x.den y.num y.den z u w v (den_above x.num x.den x.lowest) (den_above y.num y.den y.lowest) above_u above_v (quotient_over x a p z u d above_p above_d is_x is_a is_p) (quotient_over y b q w v d above_q above_d is_y is_b is_q);
+  fits = λ some. (fits_x, fits_y);
 }
 
 pub order_none : (a p b q : Fraction) → a.num ≡ pos 0 → b.num ≡ pos 0 → IsOrderOf Equal a p b q
 order_none a p b q none_a none_b = record {
   scaled = λ z u w v d above_d above_u above_v is_a is_p is_b is_q.
       sym (cmp_equal (z *ℤ v) (w *ℤ u) (ap (λ k. k *ℤ v) (number_none a z d is_a none_a) ∙ none_times v ∙ sym (none_times u) ∙ ap (λ k. k *ℤ u) (sym (number_none b w d is_b none_b))));
+  fits = λ some. absurd (some (none_a, none_b));
 }
 
 -- what the order at a row says of the tableau over one denominator
@@ -87,22 +90,54 @@ together x y h = omega (arith, ints)
 abbrev pub OrderAt : List (List Fraction) → ℕ → ℕ → ℕ → ℕ → Ordering → Type 0
 OrderAt cells r k l i order = IsOrderOf order (cell_of (row_of cells i) k) (cell_of (row_of cells r) k) (cell_of (row_of cells i) l) (cell_of (row_of cells r) l)
 
-pub when_less : (n : ℕ) (cells : List (List Fraction)) (t : Scaled) (r k l i : ℕ) → ShowsPair n cells t r k l → i < length cells → ((j : ℕ) → j < i → SameQuotients t r k l j) → OrderAt cells r k l i Less → ComparisonGives (Some false) cells t r k l
-when_less n cells t r k l i h there before is = inl (record {
-  first = i;
-  above = apart (number_at t i k *ℤ number_at t r l) (number_at t i l *ℤ number_at t r k) (less_of (number_at t i k *ℤ number_at t r l) (number_at t i l *ℤ number_at t r k) (order_at n cells t r k l i Less h there is));
-  before = λ j p. together (number_at t j l *ℤ number_at t r k) (number_at t j k *ℤ number_at t r l) (before j p);
-})
+-- the quotients of a row are computed but where both cells are 0
+abbrev pub RowCompareFits : List (List Fraction) → ℕ → ℕ → ℕ → ℕ → Type 0
+RowCompareFits cells r k l i = (((cell_of (row_of cells i) k).num ≡ pos 0) × ((cell_of (row_of cells i) l).num ≡ pos 0) → ⊥) → QuotientFits (cell_of (row_of cells i) k) (cell_of (row_of cells r) k) × QuotientFits (cell_of (row_of cells i) l) (cell_of (row_of cells r) l)
 
-pub when_greater : (n : ℕ) (cells : List (List Fraction)) (t : Scaled) (r k l i : ℕ) → ShowsPair n cells t r k l → i < length cells → ((j : ℕ) → j < i → SameQuotients t r k l j) → OrderAt cells r k l i Greater → ComparisonGives (Some true) cells t r k l
-when_greater n cells t r k l i h there before is = record {
-  first = i;
-  above = apart (number_at t i l *ℤ number_at t r k) (number_at t i k *ℤ number_at t r l) (greater_of (number_at t i k *ℤ number_at t r l) (number_at t i l *ℤ number_at t r k) (order_at n cells t r k l i Greater h there is));
-  before = λ j p. together (number_at t j k *ℤ number_at t r l) (number_at t j l *ℤ number_at t r k) (sym (before j p));
+-- the quotients up to the first row where they differ were computed
+compare_to : (cells : List (List Fraction)) (t : Scaled) (r k l i : ℕ) → ((j : ℕ) → j < i → RowCompareFits cells r k l j) → RowCompareFits cells r k l i → (SameQuotients t r k l i → ⊥) → CompareFits cells t r k l
+compare_to cells t r k l i before here differ = record {
+  at = λ m there same some. elim (cases_lt m i) [
+    | inl less ↦ before m less some
+    | inr more ↦ elim (cases_eq m i) [
+      | inl is ↦ subst (λ (x : ℕ). RowCompareFits cells r k l x) (sym is) here some
+      | inr other ↦ absurd (differ (same i (omega arith)))
+    ]
+  ];
 }
 
-pub when_equal : (n : ℕ) (cells : List (List Fraction)) (t : Scaled) (r k l i : ℕ) → ShowsPair n cells t r k l → i < length cells → OrderAt cells r k l i Equal → SameQuotients t r k l i
-when_equal n cells t r k l i h there is = sym (equal_of (number_at t i k *ℤ number_at t r l) (number_at t i l *ℤ number_at t r k) (order_at n cells t r k l i Equal h there is))
+less_differs : (x y : ℤ) → x <ℤ y → y ≡ x → ⊥
+less_differs x y h same = omega (arith, ints)
+
+greater_differs : (x y : ℤ) → y <ℤ x → y ≡ x → ⊥
+greater_differs x y h same = omega (arith, ints)
+
+pub when_less : (n : ℕ) (cells : List (List Fraction)) (t : Scaled) (r k l i : ℕ) → ShowsPair n cells t r k l → i < length cells → ((j : ℕ) → j < i → SameQuotients t r k l j × RowCompareFits cells r k l j) → OrderAt cells r k l i Less → ComparisonGives (Some false) cells t r k l
+when_less n cells t r k l i h there before is = (
+  inl (record {
+    first = i;
+    above = apart (number_at t i k *ℤ number_at t r l) (number_at t i l *ℤ number_at t r k) (less_of (number_at t i k *ℤ number_at t r l) (number_at t i l *ℤ number_at t r k) (order_at n cells t r k l i Less h there is));
+    before = λ j p. together (number_at t j l *ℤ number_at t r k) (number_at t j k *ℤ number_at t r l) (before j p).0;
+  }),
+  compare_to cells t r k l i (λ j p. (before j p).1) is.fits (less_differs (number_at t i k *ℤ number_at t r l) (number_at t i l *ℤ number_at t r k) (less_of (number_at t i k *ℤ number_at t r l) (number_at t i l *ℤ number_at t r k) (order_at n cells t r k l i Less h there is))),
+)
+
+pub when_greater : (n : ℕ) (cells : List (List Fraction)) (t : Scaled) (r k l i : ℕ) → ShowsPair n cells t r k l → i < length cells → ((j : ℕ) → j < i → SameQuotients t r k l j × RowCompareFits cells r k l j) → OrderAt cells r k l i Greater → ComparisonGives (Some true) cells t r k l
+when_greater n cells t r k l i h there before is = (
+  record {
+    first = i;
+    above = apart (number_at t i l *ℤ number_at t r k) (number_at t i k *ℤ number_at t r l) (greater_of (number_at t i k *ℤ number_at t r l) (number_at t i l *ℤ number_at t r k) (order_at n cells t r k l i Greater h there is));
+    before = λ j p. together (number_at t j k *ℤ number_at t r l) (number_at t j l *ℤ number_at t r k) (sym (before j p).0);
+  },
+  compare_to cells t r k l i (λ j p. (before j p).1) is.fits (greater_differs (number_at t i k *ℤ number_at t r l) (number_at t i l *ℤ number_at t r k) (greater_of (number_at t i k *ℤ number_at t r l) (number_at t i l *ℤ number_at t r k) (order_at n cells t r k l i Greater h there is))),
+)
+
+pub when_equal : (n : ℕ) (cells : List (List Fraction)) (t : Scaled) (r k l i : ℕ) → ShowsPair n cells t r k l → i < length cells → OrderAt cells r k l i Equal → SameQuotients t r k l i × RowCompareFits cells r k l i
+when_equal n cells t r k l i h there is = (sym (equal_of (number_at t i k *ℤ number_at t r l) (number_at t i l *ℤ number_at t r k) (order_at n cells t r k l i Equal h there is)), is.fits)
+
+-- all quotients are the same
+pub when_all : (cells : List (List Fraction)) (t : Scaled) (r k l : ℕ) → ((i : ℕ) → i < length cells → SameQuotients t r k l i × RowCompareFits cells r k l i) → ComparisonGives (Some false) cells t r k l
+when_all cells t r k l all = (inr (λ i p. (all i p).0), record { at = λ i there same some. (all i there).1 some })
 
 pub when_none : (cells : List (List Fraction)) (t : Scaled) (r k l i : ℕ) → i < length cells → ((j : ℕ) → j < i → SameQuotients t r k l j) → (((cell_of (row_of cells i) k).num ≡ pos 0) × ((cell_of (row_of cells i) l).num ≡ pos 0) → ⊥) → (QuotientFits (cell_of (row_of cells i) k) (cell_of (row_of cells r) k) × QuotientFits (cell_of (row_of cells i) l) (cell_of (row_of cells r) l) → ⊥) → ComparisonGives None cells t r k l
 when_none cells t r k l i there before some none h = none (h.at i there before some)

@@ -4,7 +4,7 @@ use Rattle.std.proofs.lemmas.Int.{ints}
 use Rattle.exact_simplex.specs.Tableaus.{Scaled, IsPivotPlace, IsRaised, pivot_of}
 use Rattle.exact_simplex.specs.Forms.{Parts}
 use Rattle.exact_simplex.specs.Start.{start_of, Reaches, none, more}
-use Rattle.exact_simplex.specs.Laws.{PivotsRaise}
+use Rattle.exact_simplex.specs.Laws.{PivotsRaise, PivotsRaiseFrom}
 use Rattle.exact_simplex.proofs.Ring.{chain}
 use Rattle.exact_simplex.proofs.Order.{first_above-same, first_above-scale, first_above-add}
 use Rattle.exact_simplex.proofs.Choice.{first_above_factor}
@@ -37,8 +37,11 @@ reached_raises p (suc made) t s h (more made' t' s' r k before place) some = las
 not_same : (t s : Scaled) → IsRaised t s → ((i : ℕ) → s.value i *ℤ pos t.scale ≡ t.value i *ℤ pos s.scale) → ⊥
 not_same t s h same = let above = h.above in let e = same h.first in omega (arith, ints)
 
-pub pivots_raise_lem : PivotsRaise
-pivots_raise_lem p first made t s before after some =
-    let at = reached_keeps p first (start_of p) t (record { stands = start_stands_for p; positive = start_positive p }) before in
+pub pivots_raise_from_lem : PivotsRaiseFrom
+pivots_raise_from_lem p from first made t s stands positive before after some =
+    let at = reached_keeps p first from t (record { stands = stands; positive = positive }) before in
     let raised = reached_raises p made t s at after some in
     (raised, not_same t s raised)
+
+pub pivots_raise_lem : PivotsRaise
+pivots_raise_lem p first made t s before after some = pivots_raise_from_lem p (start_of p) first made t s (start_stands_for p) (start_positive p) before after some

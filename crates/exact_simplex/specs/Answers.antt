@@ -11,9 +11,9 @@ use Rattle.exact_simplex.specs.declared.relaxed.Relaxed.{Relaxed}
 use Rattle.exact_simplex.specs.declared.relaxed.Relaxed.TheVariants.{Least, Empty, Wide, Misfit, Spent}
 use Rattle.exact_simplex.specs.Tableaus.{Scaled}
 use Rattle.exact_simplex.specs.Forms.{Parts, parts_of}
-use Rattle.exact_simplex.specs.Choices.{FirstCandidate, ChoiceFits}
-use Rattle.exact_simplex.specs.Pivots.{PivotFits}
-use Rattle.exact_simplex.specs.Relaxing.{IsReached, IsLeastTable, IsFirstBelow}
+use Rattle.exact_simplex.specs.Start.{start_of}
+use Rattle.exact_simplex.specs.Choices.{FirstCandidate}
+use Rattle.exact_simplex.specs.Relaxing.{IsReached, IsLeastTable, IsFirstBelow, WideAt}
 use Rattle.exact_simplex.specs.Certificates.{IsExactPoint, AreExactDuals, AreExactRefutation, AreDualsOfStop, CertificateFits, RefutationFits}
 
 -- the point lies in the relaxation of the box, and the multipliers' bound there is its value, before rounding and after
@@ -23,22 +23,16 @@ pub record Certifies (program : Program) (box : Bounds) (point : Point) (duals :
   -- both over the product of the denominators
   pub unrounded_is : pos point.den *ℤ unrounded_numerator program box duals ≡ pos (duals.den * value_over program point.den (numerator point))
 
--- the tableau is one after some written pivots
-pub record IsReachedAt (p : Parts) (at : Tableau) : Type 0 where
-  pub made : ℕ
+-- the tableau is the one after so many written pivots from this one
+pub record IsReachedAfter (p : Parts) (from : Scaled) (made : ℕ) (at : Tableau) : Type 0 where
   pub scaled : Scaled
-  pub reached : IsReached p made at scaled
-
--- the tableau is the one after so many written pivots
-pub record IsReachedAfter (p : Parts) (made : ℕ) (at : Tableau) : Type 0 where
-  pub scaled : Scaled
-  pub reached : IsReached p made at scaled
+  pub reached : IsReached p from made at scaled
 
 -- the tableau is the one after at most so many written pivots
-pub record IsReachedWithin (p : Parts) (pivots : ℕ) (at : Tableau) : Type 0 where
+pub record IsReachedWithin (p : Parts) (from : Scaled) (pivots : ℕ) (at : Tableau) : Type 0 where
   pub made : ℕ
   pub few : made ≤ pivots
-  pub after : IsReachedAfter p made at
+  pub after : IsReachedAfter p from made at
 
 -- the first row with a value below 0, where it has no candidate
 pub record IsEmptyTable (at : Tableau) : Type 0 where
@@ -52,26 +46,26 @@ pub record IsOpenAt (at : Tableau) (row : ℕ) : Type 0 where
   pub first : ℕ
   pub candidate : FirstCandidate (Some first) at.cells row (length at.units)
 
--- the written pivot at the row does not fit in its column, or the choice of the column where that is None
-abbrev pub WideAt : Option ℕ → ℕ → Tableau → Scaled → ℕ → Type 0
-WideAt None n at t row = ChoiceFits n at.cells t row → ⊥
-WideAt (Some column) n at t row = PivotFits at.cells row column → ⊥
-
--- the same of the tableau after at most so many written pivots
-pub record IsWideWithin (p : Parts) (pivots : ℕ) (at : Tableau) (row : ℕ) (column : Option ℕ) : Type 0 where
+-- the written pivot at the row does not fit in the tableau after at most so many written pivots
+pub record IsWideWithin (p : Parts) (from : Scaled) (pivots : ℕ) (at : Tableau) (row : ℕ) (column : Option ℕ) : Type 0 where
   pub made : ℕ
   pub few : made ≤ pivots
   pub scaled : Scaled
-  pub reached : IsReached p made at scaled
+  pub reached : IsReached p from made at scaled
   pub wide : WideAt column p.columns at scaled row
 
 -- the tableau is over, and its exact point and duals, or its exact refutation, do not fit
 abbrev pub IsMisfit : Program → Bounds → Tableau → Type 0
 IsMisfit program box at = (IsLeastTable at.cells × (CertificateFits program box at → ⊥)) ⊎ (IsEmptyTable at × (RefutationFits program at → ⊥))
 
+-- what the written pivots from a tableau over one denominator answer
+abbrev pub IsRelaxedFrom : Scaled → Program → Bounds → ℕ → Relaxed → Type 0
+IsRelaxedFrom from program box pivots (Least point duals at) = IsReachedWithin (parts_of program box) from pivots at × IsLeastTable at.cells × RowsInRange program duals × Certifies program box point duals × IsExactPoint box at point × AreExactDuals program at duals
+IsRelaxedFrom from program box pivots (Empty duals at) = IsReachedWithin (parts_of program box) from pivots at × IsEmptyTable at × RowsInRange program duals × Refutes program box duals × AreExactRefutation program at duals
+IsRelaxedFrom from program box pivots (Wide at row col duals) = IsWideWithin (parts_of program box) from pivots at row col × IsOpenAt at row × RowsInRange program duals × AreDualsOfStop program at duals
+IsRelaxedFrom from program box pivots (Misfit at duals) = IsReachedWithin (parts_of program box) from pivots at × IsMisfit program box at × RowsInRange program duals × AreDualsOfStop program at duals
+IsRelaxedFrom from program box pivots (Spent at made duals) = IsReachedAfter (parts_of program box) from made at × (made ≡ pivots) × ((row : ℕ) × IsOpenAt at row) × RowsInRange program duals × AreDualsOfStop program at duals
+
+-- the same from the start tableau
 abbrev pub IsRelaxed : Program → Bounds → ℕ → Relaxed → Type 0
-IsRelaxed program box pivots (Least point duals at) = IsReachedWithin (parts_of program box) pivots at × IsLeastTable at.cells × RowsInRange program duals × Certifies program box point duals × IsExactPoint box at point × AreExactDuals program at duals
-IsRelaxed program box pivots (Empty duals at) = IsReachedWithin (parts_of program box) pivots at × IsEmptyTable at × RowsInRange program duals × Refutes program box duals × AreExactRefutation program at duals
-IsRelaxed program box pivots (Wide at row col duals) = IsWideWithin (parts_of program box) pivots at row col × IsOpenAt at row × RowsInRange program duals × AreDualsOfStop program at duals
-IsRelaxed program box pivots (Misfit at duals) = IsReachedWithin (parts_of program box) pivots at × IsMisfit program box at × RowsInRange program duals × AreDualsOfStop program at duals
-IsRelaxed program box pivots (Spent at made duals) = IsReachedAfter (parts_of program box) made at × (made ≡ pivots) × ((row : ℕ) × IsOpenAt at row) × RowsInRange program duals × AreDualsOfStop program at duals
+IsRelaxed program box pivots relaxed = IsRelaxedFrom (start_of (parts_of program box)) program box pivots relaxed

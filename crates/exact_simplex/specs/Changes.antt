@@ -5,10 +5,10 @@ use Rattle.exact_fraction.specs.Exact.{IsRatio}
 use Rattle.exact_simplex.specs.Cells.{cell_of, row_of}
 use Rattle.exact_simplex.specs.Pivots.{IsQuotient, QuotientFits, CellFits}
 
--- the share of a column: its cell in the pivot's row over the pivot, and 0 in the pivot's own column
+-- the share of a column: its cell in the pivot's row over the pivot, which fits, and 0 in the pivot's own column
 abbrev pub ShareFor : Bool → Fraction → Fraction → Fraction → Type 0
 ShareFor true share cell pivot = share.num ≡ pos 0
-ShareFor false share cell pivot = IsQuotient share cell pivot
+ShareFor false share cell pivot = IsQuotient share cell pivot × QuotientFits cell pivot
 
 pub record AreShares (shares row : List Fraction) (k : ℕ) (pivot : Fraction) : Type 0 where
   pub size : length shares ≡ length row
@@ -18,13 +18,14 @@ pub record AreShares (shares row : List Fraction) (k : ℕ) (pivot : Fraction) :
 pub record SharesFit (row : List Fraction) (k : ℕ) (pivot : Fraction) : Type 0 where
   pub at : (c : ℕ) → c < length row → (c == k) ≡ false → QuotientFits (cell_of row c) pivot
 
--- new is old less factor * share: over any scales
+-- new is old less factor * share: over any scales; the operations fit
 pub record IsTaken (new old factor share : Fraction) : Type 0 where
   pub scaled : (a b c d p : ℤ) → pos 0 <ℤ d → pos 0 <ℤ p → IsRatio old.num old.den a d → IsRatio factor.num factor.den b d → IsRatio share.num share.den c p → IsRatio new.num new.den (a *ℤ p -ℤ b *ℤ c) (d *ℤ p)
+  pub fits : CellFits old factor share
 
--- the new cell of a row that is neither the pivot's nor 0 in its column
+-- the new cell of a row that is neither the pivot's nor 0 in its column, whose operations fit
 abbrev pub CellFor : Bool → Fraction → Fraction → Fraction → Fraction → Fraction → Type 0
-CellFor true new old factor share pivot = IsQuotient new factor pivot
+CellFor true new old factor share pivot = IsQuotient new factor pivot × QuotientFits factor pivot
 CellFor false new old factor share pivot = IsTaken new old factor share
 
 abbrev pub CellForFits : Bool → Fraction → Fraction → Fraction → Fraction → Type 0

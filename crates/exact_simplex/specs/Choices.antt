@@ -8,9 +8,10 @@ use Rattle.exact_simplex.specs.Tableaus.{Scaled, IsFirstAbove}
 use Rattle.exact_simplex.specs.Cells.{cell_of, row_of, number_at, ShowsRow}
 use Rattle.exact_simplex.specs.Pivots.{QuotientFits}
 
--- the order of a / p and b / q, over any scale
+-- the order of a / p and b / q, over any scale; where not both are 0, both fit
 pub record IsOrderOf (order : Ordering) (a p b q : Fraction) : Type 0 where
   pub scaled : (z u w v d : ℤ) → pos 0 <ℤ d → pos 0 <ℤ u → pos 0 <ℤ v → IsRatio a.num a.den z d → IsRatio p.num p.den u d → IsRatio b.num b.den w d → IsRatio q.num q.den v d → order ≡ int_cmp (z *ℤ v) (w *ℤ u)
+  pub fits : ((a.num ≡ pos 0) × (b.num ≡ pos 0) → ⊥) → QuotientFits a p × QuotientFits b q
 
 -- the quotients of columns k and l by row r are the same in row i
 abbrev pub SameQuotients : Scaled → ℕ → ℕ → ℕ → ℕ → Type 0
@@ -25,11 +26,11 @@ pub record CompareFits (cells : List (List Fraction)) (t : Scaled) (r k l : ℕ)
   pub at : (i : ℕ) → i < length cells → ((j : ℕ) → j < i → SameQuotients t r k l j) → (((cell_of (row_of cells i) k).num ≡ pos 0) × ((cell_of (row_of cells i) l).num ≡ pos 0) → ⊥)
       → QuotientFits (cell_of (row_of cells i) k) (cell_of (row_of cells r) k) × QuotientFits (cell_of (row_of cells i) l) (cell_of (row_of cells r) l)
 
--- what a comparison of columns k and l answers: whether l comes before k, or None where it does not fit
+-- what a comparison of columns k and l answers: whether l comes before k, where it fits, or None where it does not
 abbrev pub ComparisonGives : Option Bool → List (List Fraction) → Scaled → ℕ → ℕ → ℕ → Type 0
 ComparisonGives None cells t r k l = CompareFits cells t r k l → ⊥
-ComparisonGives (Some true) cells t r k l = IsBefore t r l k
-ComparisonGives (Some false) cells t r k l = IsBefore t r k l ⊎ ((i : ℕ) → i < length cells → SameQuotients t r k l i)
+ComparisonGives (Some true) cells t r k l = IsBefore t r l k × CompareFits cells t r k l
+ComparisonGives (Some false) cells t r k l = (IsBefore t r k l ⊎ ((i : ℕ) → i < length cells → SameQuotients t r k l i)) × CompareFits cells t r k l
 
 -- the rows show a tableau over one denominator, with its pivot row's cells of two columns above 0
 pub record ShowsPair (n : ℕ) (cells : List (List Fraction)) (t : Scaled) (r k l : ℕ) : Type 0 where
@@ -56,7 +57,7 @@ pub record IsHeld (cells : List (List Fraction)) (t : Scaled) (r l k : ℕ) : Ty
   pub candidate : IsCandidate cells r (suc k)
   pub first : (j : ℕ) → j < l → (j ≡ k → ⊥) → IsCandidate cells r (suc j) → IsBefore t r (suc k) (suc j)
 
--- each comparison of the choice at row r fits
+-- each comparison of the choice among the first n units at row r fits
 pub record ChoiceFits (n : ℕ) (cells : List (List Fraction)) (t : Scaled) (r : ℕ) : Type 0 where
   pub at : (k l : ℕ) → l < n → IsHeld cells t r l k → IsCandidate cells r (suc l) → CompareFits cells t r (suc k) (suc l)
 
@@ -67,11 +68,12 @@ pub record IsSetting (n : ℕ) (cells : List (List Fraction)) (t : Scaled) : Typ
   pub units_in : (k : ℕ) → k < n → t.unit k < length cells
   pub unit_factor : (k l : ℕ) → k < n → l < n → t.factor (t.unit k) l ≡ (if l == k then pos t.scale else pos 0)
 
+-- the unit that is held once unit l was seen, where the comparisons with it fit
 abbrev pub NextGives : Option ℕ → ℕ → List (List Fraction) → Scaled → ℕ → ℕ → Type 0
 NextGives None n cells t r l = ChoiceFits n cells t r → ⊥
-NextGives (Some next) n cells t r l = IsHeld cells t r (suc l) next
+NextGives (Some next) n cells t r l = IsHeld cells t r (suc l) next × (ChoiceFits l cells t r → ChoiceFits (suc l) cells t r)
 
--- the choice gives the unit that is held at the end, or None where it does not fit
+-- the choice gives the unit that is held at the end, where it fits, or None where it does not
 abbrev pub ChoiceGives : Option ℕ → ℕ → List (List Fraction) → Scaled → ℕ → Type 0
 ChoiceGives None n cells t r = ChoiceFits n cells t r → ⊥
-ChoiceGives (Some chosen) n cells t r = IsHeld cells t r n chosen
+ChoiceGives (Some chosen) n cells t r = IsHeld cells t r n chosen × ChoiceFits n cells t r

@@ -10,7 +10,10 @@ pub mod Changes
 pub mod Shapes
 pub mod Beginning
 pub mod Choices
+pub mod Rebounds
 pub mod Relaxing
 pub mod Certificates
 pub mod Answers
 pub mod Laws
+pub mod Licences
+pub mod Reasons

@@ -52,7 +52,7 @@ impl Tableau {
     ) -> Result<Advance, AllocError>
         requires row { IsFirstBelow self.old.cells row }
         requires first { FirstCandidate (Some first) self.old.cells row (length self.old.units) }
-        ensures { IfOk result (λ found. (p : Parts) (made : ℕ) (t : Scaled) → IsReached p made self.old t → AdvanceGives found p made self.old self.new row t) }
+        ensures { IfOk result (λ found. (p : Parts) (from : Scaled) (made : ℕ) (t : Scaled) → IsReached p from made self.old t → AdvanceGives found p from made self.old self.new row t) }
     {
         let units = self.units.len();
         let chosen = choose(self.cells.as_slice(), row as usize, first, units);

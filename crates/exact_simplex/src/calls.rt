@@ -1,12 +1,15 @@
 //! The calls of a tableau.
 ghost use Rattle.std.specs.Prelude.{◌≡◌, ℕ, ◌+◌, ◌-◌, ◌<◌, ◌≤◌, ◌<ℤ◌, suc, pos, true, false, length, slice_index, IfOk};
 ghost use Rattle.exact_simplex.specs.Cells.{cell_of, row_of, Shows};
+ghost use Rattle.exact_simplex.specs.Kept.{AreKept, value_of};
 ghost use Rattle.exact_simplex.specs.Pivots.{PivotFits};
 ghost use Rattle.exact_simplex.specs.Tableaus.{Scaled, pivot_of};
 
 use crate::rows::{pivot_changes, put_rows};
 use crate::table::Tableau;
+use crate::tableau_row::Kept;
 use exact_fraction::Fraction;
+use ras_table::List;
 use std::alloc::{AllocError, Global};
 
 impl Tableau {
@@ -33,6 +36,15 @@ impl Tableau {
         self.cells.as_slice()[row as usize].cell(column as usize)
     }
 
+    /// The cells that a row keeps, by rising column: no value among them is 0, and the row has 0 in each column that is not among them.
+    pub fn kept(&self, row: u32) -> &List<Kept>
+        requires { row < length self.now.cells }
+        ensures kept { AreKept (suc (length self.now.units)) result.now }
+        ensures values { (c : ℕ) → value_of result.now c ≡ cell_of (row_of self.now.cells row) c }
+    {
+        self.cells.as_slice()[row as usize].kept_list()
+    }
+
     /// The row that is the unit of a column from 1 on.
     pub fn unit(&self, column: u32) -> u32
         requires first { 1 ≤ column }
@@ -51,6 +63,7 @@ impl Tableau {
         ensures rows { length self.new.cells ≡ length self.old.cells }
         ensures units { length self.new.units ≡ length self.old.units }
         ensures made { IfOk result (λ made. made ≡ true → (n : ℕ) (t : Scaled) → 1 ≤ t.scale → pos 0 <ℤ t.factor row unit → Shows n self.old.cells self.old.units t → Shows n self.new.cells self.new.units (pivot_of t row unit)) }
+        ensures fits { IfOk result (λ made. made ≡ true → PivotFits self.old.cells row (suc unit)) }
         ensures kept { IfOk result (λ made. made ≡ false → self.new ≡ self.old) }
         ensures none { IfOk result (λ made. made ≡ false → PivotFits self.old.cells row (suc unit) → ⊥) }
     {

@@ -5,9 +5,11 @@ ghost use Rattle.bound_certificate.specs.Bound.{RowsInRange};
 ghost use Rattle.bound_certificate.specs.declared.multipliers.Multipliers.{Multipliers};
 ghost use Rattle.exact_simplex.specs.Choices.{FirstCandidate};
 ghost use Rattle.exact_simplex.specs.Forms.{parts_of};
-ghost use Rattle.exact_simplex.specs.Answers.{IsMisfit, IsReachedAfter, IsReachedAt, IsReachedWithin, IsRelaxed, IsWideWithin};
+ghost use Rattle.exact_simplex.specs.Answers.{IsMisfit, IsReachedAfter, IsReachedWithin, IsRelaxed, IsRelaxedFrom, IsWideWithin};
 ghost use Rattle.exact_simplex.specs.Certificates.{AreDualsOfStop, AreExactDuals, AreExactRefutation, RefutationFits, UnitsDiffer};
-ghost use Rattle.exact_simplex.specs.Relaxing.{IsFirstBelow, IsLeastTable};
+ghost use Rattle.exact_simplex.specs.Licences.{GivesLicence, most_pivots};
+ghost use Rattle.exact_simplex.specs.Relaxing.{IsFirstBelow, IsLeastTable, IsStanding, Stands};
+ghost use Rattle.exact_simplex.specs.Tableaus.{Scaled};
 
 use crate::multiples::{exact_multipliers, near_multipliers};
 use crate::point::point_of;
@@ -72,7 +74,7 @@ fn misfit(
 ) -> Result<Relaxed, AllocError>
     requires some { 0 < length at.cells }
     requires units { UnitsDiffer at.units }
-    ensures { IfOk result (λ found. (pivots : ℕ) → IsReachedWithin (parts_of program.now bounds.now) pivots at → IsMisfit program.now bounds.now at → IsRelaxed program.now bounds.now pivots found) }
+    ensures { IfOk result (λ found. (from : Scaled) (pivots : ℕ) → IsReachedWithin (parts_of program.now bounds.now) from pivots at → IsMisfit program.now bounds.now at → IsRelaxedFrom from program.now bounds.now pivots found) }
 {
     let duals = near_duals(alloc, program, &at)?;
     Ok(Relaxed::Misfit { at, duals })
@@ -86,9 +88,9 @@ fn least(
     at: Tableau,
 ) -> Result<Relaxed, AllocError>
     requires is_box { IsBoxOf program.now bounds.now }
-    requires reached { IsReachedAt (parts_of program.now bounds.now) at }
+    requires standing { IsStanding (parts_of program.now bounds.now) at }
     requires least { IsLeastTable at.cells }
-    ensures { IfOk result (λ found. (pivots : ℕ) → IsReachedWithin (parts_of program.now bounds.now) pivots at → IsRelaxed program.now bounds.now pivots found) }
+    ensures { IfOk result (λ found. (from : Scaled) (pivots : ℕ) → IsReachedWithin (parts_of program.now bounds.now) from pivots at → IsRelaxedFrom from program.now bounds.now pivots found) }
 {
     let Some(point) = point_of(alloc, &at, bounds)? else {
         return misfit(alloc, program, bounds, at);
@@ -108,10 +110,10 @@ fn empty(
     row: u32,
 ) -> Result<Relaxed, AllocError>
     requires is_box { IsBoxOf program.now bounds.now }
-    requires reached { IsReachedAt (parts_of program.now bounds.now) at }
+    requires standing { IsStanding (parts_of program.now bounds.now) at }
     requires below { IsFirstBelow at.cells row }
     requires none { FirstCandidate None at.cells row (length at.units) }
-    ensures { IfOk result (λ found. (pivots : ℕ) → IsReachedWithin (parts_of program.now bounds.now) pivots at → IsRelaxed program.now bounds.now pivots found) }
+    ensures { IfOk result (λ found. (from : Scaled) (pivots : ℕ) → IsReachedWithin (parts_of program.now bounds.now) from pivots at → IsRelaxedFrom from program.now bounds.now pivots found) }
 {
     let Some(duals) = exact_refutation(alloc, program, &at, row)? else {
         return misfit(alloc, program, bounds, at);
@@ -130,7 +132,7 @@ fn wide(
 ) -> Result<Relaxed, AllocError>
     requires units { UnitsDiffer at.units }
     requires below { IsFirstBelow at.cells row }
-    ensures { IfOk result (λ found. (pivots first : ℕ) → FirstCandidate (Some first) at.cells row (length at.units) → IsWideWithin (parts_of program.now bounds.now) pivots at row col → IsRelaxed program.now bounds.now pivots found) }
+    ensures { IfOk result (λ found. (from : Scaled) (pivots first : ℕ) → FirstCandidate (Some first) at.cells row (length at.units) → IsWideWithin (parts_of program.now bounds.now) from pivots at row col → IsRelaxedFrom from program.now bounds.now pivots found) }
 {
     let duals = near_duals(alloc, program, &at)?;
     Ok(Relaxed::Wide {
@@ -154,23 +156,27 @@ fn spent(
     requires units { UnitsDiffer at.units }
     requires below { IsFirstBelow at.cells row }
     requires first { FirstCandidate (Some first) at.cells row (length at.units) }
-    ensures { IfOk result (λ found. IsReachedAfter (parts_of program.now bounds.now) made at → IsRelaxed program.now bounds.now made found) }
+    ensures { IfOk result (λ found. (from : Scaled) → IsReachedAfter (parts_of program.now bounds.now) from made at → IsRelaxedFrom from program.now bounds.now made found) }
 {
     let duals = near_duals(alloc, program, &at)?;
     Ok(Relaxed::Spent { at, made, duals })
 }
 
-/// Makes the written pivots from the start tableau of the program in the box, up to so many.
-pub fn relax(
+/// Makes the written pivots from a tableau that stands for the program in the box, up to so many.
+///
+/// After want of memory the tableau is dropped.
+pub fn relax_from(
     alloc: Global,
     program: &Program,
     bounds: &Bounds,
+    start: Tableau,
     pivots: u64,
 ) -> Result<Relaxed, AllocError>
-    requires { IsBoxOf program.now bounds.now }
-    ensures { IfOk result (λ found. IsRelaxed program.now bounds.now pivots found) }
+    requires is_box { IsBoxOf program.now bounds.now }
+    requires standing { IsStanding (parts_of program.now bounds.now) start }
+    ensures { IfOk result (λ found. (from : Scaled) → Stands (parts_of program.now bounds.now) start from → IsRelaxedFrom from program.now bounds.now pivots found) }
 {
-    let mut at = start(alloc, program, bounds)?;
+    let mut at = start;
     for step in 0..pivots {
         match at.state() {
             State::Least => return least(alloc, program, bounds, at),
@@ -186,4 +192,19 @@ pub fn relax(
         State::Empty { row } => empty(alloc, program, bounds, at, row),
         State::Open { row, first } => spent(alloc, program, bounds, at, row, first, pivots),
     }
+}
+
+/// Makes the written pivots from the start tableau of the program in the box, up to so many.
+pub fn relax(
+    alloc: Global,
+    program: &Program,
+    bounds: &Bounds,
+    pivots: u64,
+) -> Result<Relaxed, AllocError>
+    requires { IsBoxOf program.now bounds.now }
+    ensures relaxed { IfOk result (λ found. IsRelaxed program.now bounds.now pivots found) }
+    ensures licence { IfOk result (λ found. pivots ≡ most_pivots program.now → GivesLicence program.now bounds.now found) }
+{
+    let at = start(alloc, program, bounds)?;
+    relax_from(alloc, program, bounds, at, pivots)
 }

@@ -70,6 +70,14 @@ impl TableauRow {
         self.kept.as_slice()
     }
 
+    /// The list of these cells.
+    pub fn kept_list(&self) -> &List<Kept>
+        ensures kept { AreKept (length self.now) result.now }
+        ensures values { (c : ℕ) → value_of result.now c ≡ cell_of self.now c }
+    {
+        &self.kept
+    }
+
     /// The cell in a column.
     pub fn cell(&self, column: usize) -> Fraction
         requires { column < length self.now }

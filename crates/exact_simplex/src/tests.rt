@@ -1,15 +1,19 @@
 //! Tests on small programs, whose answers were computed apart from this code.
-ghost use Rattle.std.specs.Prelude.{◌≡◌, ◌<◌, ◌^◌, All, IfOk, None, length, map};
+ghost use Rattle.std.specs.Prelude.{◌≡◌, ◌<◌, ◌^◌, All, IfOk, IfSome, None, length, map};
+ghost use Rattle.ip_model.specs.Points.{IsBoxOf};
+ghost use Rattle.exact_simplex.specs.Forms.{parts_of};
+ghost use Rattle.exact_simplex.specs.Relaxing.{IsStanding};
 ghost use Rattle.ip_model.specs.declared.parts.Mark.TheVariants.{Count};
 ghost use Rattle.ip_model.specs.declared.parts.RowKind.TheVariants.{Total};
 
 use crate::multiples::near_multipliers;
+use crate::other_box::rebound;
 use crate::relaxed::Relaxed;
-use crate::run::relax;
+use crate::run::{relax, relax_from};
 use crate::table::Tableau;
 use bound_certificate::Top;
 use exact_fraction::whole;
-use ip_model::{Column, Line, Mark, Program, RowKind, Term, full_box};
+use ip_model::{Bounds, Column, Line, Mark, Program, RowKind, Term, full_box};
 use ras_table::List;
 use std::alloc::{AllocError, Global};
 use std::test::Fail;
@@ -444,6 +448,124 @@ fn gives_wide(alloc: Global, program: Program, row: u32, column: u32) -> Result<
 fn gives_spent(alloc: Global, program: Program) -> Result<bool, AllocError> {
     let found = in_full_box(alloc, &program, 0)?;
     Ok(matches!(found, Relaxed::Spent { made: 0, .. }))
+}
+
+/// The full box with other numbers of column 0, in order and not above its top.
+fn with_first(alloc: Global, program: &Program, low: u32, high: u32) -> Result<Bounds, AllocError>
+    ensures { IfOk result (λ bounds. IsBoxOf program.now bounds) }
+{
+    let mut bounds = full_box(alloc, program)?;
+    if bounds.low.is_empty() || bounds.high.is_empty() {
+        return Ok(bounds);
+    }
+    let most = high.min(bounds.high.as_slice()[0]);
+    bounds.low.set(0, low.min(most));
+    bounds.high.set(0, most);
+    Ok(bounds)
+}
+
+/// The least tableau of a program in a box.
+fn least_table(
+    alloc: Global,
+    program: &Program,
+    bounds: &Bounds,
+) -> Result<Option<Tableau>, AllocError>
+    requires { IsBoxOf program.now bounds.now }
+    ensures { IfOk result (λ found. IfSome found (λ at. IsStanding (parts_of program.now bounds.now) at)) }
+{
+    match relax(alloc, program, bounds, 1000)? {
+        Relaxed::Least {
+            point: _point,
+            duals: _duals,
+            at,
+        } => Ok(Some(at)),
+        _ => Ok(None),
+    }
+}
+
+/// The relaxation in the box with other numbers of column 0, from the least tableau of the full box.
+fn from_full_box(
+    alloc: Global,
+    program: &Program,
+    low: u32,
+    high: u32,
+) -> Result<Option<Relaxed>, AllocError> {
+    let full = with_first(alloc, program, 0, 0xffff_ffff)?;
+    let other = with_first(alloc, program, low, high)?;
+    let Some(at) = least_table(alloc, program, &full)? else {
+        return Ok(None);
+    };
+    let Some(moved) = rebound(alloc, &at, program, &full, &other)? else {
+        return Ok(None);
+    };
+    Ok(Some(relax_from(alloc, program, &other, moved, 1000)?))
+}
+
+/// Whether two tableaus have the same units and cells.
+fn are_same(a: &Tableau, b: &Tableau) -> bool {
+    if a.rows() != b.rows() || a.columns() != b.columns() {
+        return false;
+    }
+    for k in 0..a.columns() {
+        if k > 0 && a.unit(k) != b.unit(k) {
+            return false;
+        }
+        for i in 0..a.rows() {
+            let x = a.cell(i, k);
+            let y = b.cell(i, k);
+            if x.num != y.num || x.den != y.den {
+                return false;
+            }
+        }
+    }
+    true
+}
+
+/// Whether the least tableau of the full box stays as it is in the same box.
+fn stays_in_its_box(alloc: Global, program: &Program) -> Result<bool, AllocError> {
+    let full = with_first(alloc, program, 0, 0xffff_ffff)?;
+    let Some(at) = least_table(alloc, program, &full)? else {
+        return Ok(false);
+    };
+    let Some(moved) = rebound(alloc, &at, program, &full, &full)? else {
+        return Ok(false);
+    };
+    Ok(are_same(&at, &moved))
+}
+
+/// Whether both ways to relax in a box with other numbers of column 0 give this value, or Empty where that is None.
+fn both_give(
+    alloc: Global,
+    program: &Program,
+    low: u32,
+    high: u32,
+    value: Option<(i128, i128)>,
+) -> Result<bool, AllocError> {
+    let other = with_first(alloc, program, low, high)?;
+    let afresh = relax(alloc, program, &other, 1000)?;
+    let Some(from_parent) = from_full_box(alloc, program, low, high)? else {
+        return Ok(false);
+    };
+    match (&afresh, &from_parent, value) {
+        (Relaxed::Least { at: a, .. }, Relaxed::Least { at: b, .. }, Some((num, den))) => {
+            Ok(has_value(a, num, den) && has_value(b, num, den))
+        }
+        (Relaxed::Empty { .. }, Relaxed::Empty { .. }, None) => Ok(true),
+        _ => Ok(false),
+    }
+}
+
+#[test]
+fn other_boxes(rt: HostRuntime) -> Result<(), Fail> {
+    let alloc = rt.alloc();
+    let program = pairs(alloc)?;
+    let holds = stays_in_its_box(alloc, &program)?;
+    assert!(rt; holds);
+    let holds = both_give(alloc, &program, 2, 2, Some((11, 2)))?;
+    assert!(rt; holds);
+    let holds = both_give(alloc, &program, 0, 0, None)?;
+    assert!(rt; holds);
+    Ok(())
 }
 
 #[test]

@@ -1,5 +1,5 @@
 use Rattle.std.proofs.Common.{◌<◌, suc}
-use Rattle.exact_simplex.specs.Choices.{IsCandidate, IsHeld, IsSetting}
+use Rattle.exact_simplex.specs.Choices.{ChoiceFits, IsCandidate, IsHeld, IsSetting}
 use Rattle.exact_simplex.specs.Tableaus.{Scaled}
 use Rattle.exact_simplex.proofs.picks.choose.Given as goal
 
@@ -7,5 +7,5 @@ abbrev pub invariant-loop-other : goal.invariant-loop-other
 invariant-loop-other l = record {
   within : l.held < l.other;
   candidate : IsCandidate l.cells l.place (suc l.held);
-  held : (t : Scaled) → IsSetting l.units l.cells t → IsHeld l.cells t l.place l.other l.held;
+  held : (t : Scaled) → IsSetting l.units l.cells t → IsHeld l.cells t l.place l.other l.held × ChoiceFits l.other l.cells t l.place;
 }
