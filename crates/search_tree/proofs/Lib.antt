@@ -5,3 +5,6 @@ pub mod LeafFacts
 pub mod Nested
 pub mod WayFacts
 pub mod Grow
+pub mod Sides
+pub mod Cuts
+pub mod Parents

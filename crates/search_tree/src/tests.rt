@@ -1,4 +1,6 @@
 //! A tree of one split.
+ghost use Rattle.std.specs.Prelude.{IfOk, IsSome, Some};
+ghost use Rattle.search_tree.specs.Leaves.{multipliers_of};
 
 use crate::growth::SearchTree;
 use bound_certificate::{Multipliers, Node};
@@ -7,14 +9,17 @@ use std::alloc::{AllocError, Global};
 use std::test::Fail;
 
 /// A leaf with no multiplier.
-fn leaf(alloc: Global) -> Result<Node, AllocError> {
+fn leaf(alloc: Global) -> Result<Node, AllocError>
+    ensures { IfOk result (λ node. IsSome (multipliers_of (Some node))) }
+{
     let tops = List::new(alloc, 0)?;
     Ok(Node::Bound(Multipliers { den: 1, tops }))
 }
 
 /// A leaf that is split in column 2 at 5.
 fn split_once(alloc: Global) -> Result<SearchTree, AllocError> {
-    let mut tree = SearchTree::new(alloc, leaf(alloc)?)?;
+    let first = leaf(alloc)?;
+    let mut tree = SearchTree::new(alloc, first)?;
     let low = leaf(alloc)?;
     let high = leaf(alloc)?;
     tree.split(0, 2, 5, None, low, high)?;
