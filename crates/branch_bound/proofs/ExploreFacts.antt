@@ -20,8 +20,10 @@ use Rattle.bound_certificate.proofs.WalkSteps.{low_of_full}
 use Rattle.closed_boxes.specs.Helpers.{AgreesAtCounts}
 use Rattle.closed_boxes.specs.Settling.{IsLeastPoint, IsShortRow}
 use Rattle.exact_simplex.specs.Answers.{Certifies}
+use Rattle.exact_simplex.specs.Reasons.{HasPointWithin}
 use Rattle.branch_bound.specs.Columns.{IsFractional}
 use Rattle.branch_bound.specs.Openings.{CanCut}
+use Rattle.branch_bound.proofs.ReasonFacts.{point_within}
 
 -- the point is whole in the count columns
 abbrev pub IsWholeAtCounts : Program → Point → Type 0
@@ -86,6 +88,10 @@ settled_within program box point duals settled is_box least whole found =
     let under = found.least point.den (numerator point) some (in_full_box program box point.den (numerator point) is_box least.lies.is_point) (agrees program point whole) in
     let up = le-div (value_of program settled) (value_over program point.den (numerator point) + (point.den - 1)) point.den some (omega (arith, mul_comm (value_of program settled) point.den)) in
     omega (arith, least.bound_is)
+
+-- the point is one of the relaxation within the bound of its multipliers
+pub certified_within : (program : Program) (box : Bounds) (point : Point) (duals : Multipliers) → Certifies program box point duals → HasPointWithin program box (leaf_bound program box duals)
+certified_within program box point duals least = point_within program box point (leaf_bound program box duals) least.lies (omega (arith, least.bound_is))
 
 -- a fractional column can be split where the point shows it
 pub fractional_cut : (program : Program) (box : Bounds) (point : Point) (duals : Multipliers) (column : ℕ) → IsBoxOf program box → Certifies program box point duals → IsFractional program point column

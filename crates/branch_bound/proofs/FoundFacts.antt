@@ -27,7 +27,7 @@ found_plan program first gap budget lower nodes end o best same some is grown fe
     let lies : lower ≤ value_of program best.point = subst (λ (l : Least). LiesUnder l (value_of program best.point)) stopped.bound under in
     let value = known.value_is in
     rw same (
-      record { right = grown.right; few = few; counts = grown.counts },
+      record { right = grown.right; few = few; counts = grown.counts; reasoned = stopped.reasoned },
       record {
         whole = known.whole;
         value_is = known.value_is;

@@ -17,11 +17,12 @@ use Rattle.bound_certificate.specs.Bound.{leaf_bound}
 use Rattle.bound_certificate.specs.Shown.{IsShown, AreShown}
 use Rattle.bound_certificate.specs.Trees.{low_side, high_side, bound_of_tree}
 use Rattle.bound_certificate.proofs.WalkSteps.{low_of_full}
+use Rattle.exact_simplex.specs.Reasons.{AreKnown, IsReasoned}
 use Rattle.search_tree.specs.Boxes.{box_at}
 use Rattle.search_tree.specs.Growth.{split_nodes, IsLeafOf, CanSplit}
 use Rattle.search_tree.specs.Leaves.{IsLeafAt}
 use Rattle.search_tree.proofs.Grow.{get_written, get_other, get_added, some_there, one_leaf, grow, length-split, box_kept, low_child_box, high_child_box, leaves_few, two_ways}
-use Rattle.search_tree.proofs.LeafFacts.{least_is_bound, shown_each}
+use Rattle.search_tree.proofs.LeafFacts.{least_is_bound}
 use Rattle.search_tree.proofs.Nested.{low_side_bound, high_side_bound}
 use Rattle.branch_bound.specs.declared.found.Best.{Best}
 use Rattle.branch_bound.specs.declared.leaf.Cut.{Cut}
@@ -31,6 +32,7 @@ use Rattle.branch_bound.specs.Keys.{IsLeastOpen}
 use Rattle.branch_bound.specs.Making.{IsNoLess, IsMade}
 use Rattle.branch_bound.specs.Openings.{HasWithin, Improves, HasFullHelpers, CanCut, ShowsWhy, IsCutOf, IsOpenAt, IsKept}
 use Rattle.branch_bound.specs.Searching.{IsSearch, IsNear, IsFull}
+use Rattle.branch_bound.proofs.ReasonFacts.{kept_known, kept_reasoned, known_walk, reasoned_split, shown_walk}
 
 -- ---- boxes
 
@@ -50,15 +52,18 @@ high_helpers program box column at count full = record { low = λ j h. get_or-se
 
 pub cut_improves : (program : Program) (old new : Option Best) (box : Bounds) (bound : ℕ) (cut : Option Cut) → Improves old new → IsCutOf program old box bound cut → IsCutOf program new box bound cut
 cut_improves program old new box bound (Some cut) up h = h
-cut_improves program old new box bound None up h = up bound h
+cut_improves program old new box bound None up h = (h.0, up bound h.1)
 
 pub kept_improves : (program : Program) (old new : Option Best) (box : Bounds) (node : Node) (leaf : Option OpenLeaf) → Improves old new → IsKept program old box node leaf → IsKept program new box node leaf
-kept_improves program old new box (Bound y) (Some leaf) up h = record { box_is = h.box_is; rows = h.rows; bound_is = h.bound_is; helpers = h.helpers; cut = cut_improves program old new box leaf.bound leaf.cut up h.cut }
+kept_improves program old new box (Bound y) (Some leaf) up h = record { rows = h.rows; bound_is = h.bound_is; helpers = h.helpers; cut = cut_improves program old new box leaf.bound leaf.cut up h.cut }
 kept_improves program old new box (Bound y) None up h = h
 kept_improves program old new box (Refute y) (Some leaf) up h = h
 kept_improves program old new box (Refute y) None up h = h
 kept_improves program old new box (Split column at low high shown) (Some leaf) up h = h
 kept_improves program old new box (Split column at low high shown) None up h = h
+
+pub made_improves : (program : Program) (old new : Option Best) (box : Bounds) (parent : Multipliers) (made : Made) → Improves old new → IsMade program old box parent made → IsMade program new box parent made
+made_improves program old new box parent made up h = record { right = h.right; kept = kept_improves program old new box made.node made.leaf up h.kept; no_less = h.no_less }
 
 shown_rises : (program : Program) (lower more : ℕ) (box : Bounds) (node : Node) → lower ≤ more → IsShown program lower box node → IsShown program more box node
 shown_rises program lower more box (Split column at low high (Some point)) up h = record { lies = h.lies; above = h.above; below = h.below; value = let under = h.value in omega arith }
@@ -66,10 +71,10 @@ shown_rises program lower more box (Split column at low high None) up h = tt
 shown_rises program lower more box (Bound y) up h = tt
 shown_rises program lower more box (Refute y) up h = tt
 
-shown_leaf : (program : Program) (lower : ℕ) (box other : Bounds) (node : Node) → IsLeafOf program other node → IsShown program lower box node
-shown_leaf program lower box other (Split column at low high shown) h = absurd h
-shown_leaf program lower box other (Bound y) h = tt
-shown_leaf program lower box other (Refute y) h = tt
+shown_leaf : (program : Program) (lower : ℕ) (box : Bounds) (node : Node) → IsLeafOf program box node → IsShown program lower box node
+shown_leaf program lower box (Split column at low high shown) h = absurd h
+shown_leaf program lower box (Bound y) h = tt
+shown_leaf program lower box (Refute y) h = tt
 
 shown_split : (program : Program) (lower : ℕ) (box : Bounds) (column at low high : ℕ) (shown : Option Point) → ShowsWhy program box column at lower shown → IsShown program lower box (Split column at low high shown)
 shown_split program lower box column at low high (Some point) h = h
@@ -129,7 +134,14 @@ least_bound_is program nodes leaves best i leaf right first =
     })
 
 pub all_shown : (program : Program) (nodes : List Node) (leaves : List (Option OpenLeaf)) (best : Option Best) (i : ℕ) (leaf : OpenLeaf) → IsSearch program nodes leaves best → slice_get leaves i ≡ Some (Some leaf) → AreShown program leaf.bound [] nodes
-all_shown program nodes leaves best i leaf right is = shown_each program leaf.bound nodes (λ k node there. right.shown k node i leaf there is)
+all_shown program nodes leaves best i leaf right is = shown_walk program leaf.bound nodes (λ k node there. right.shown k node i leaf there is)
+
+pub all_known : (program : Program) (nodes : List Node) (leaves : List (Option OpenLeaf)) (best : Option Best) → IsSearch program nodes leaves best → AreKnown program (HasWithin best) [] nodes
+all_known program nodes leaves best right = known_walk program (HasWithin best) nodes (λ k node there.
+    let within = slice_get_within nodes k node there in
+    let size = right.size in
+    let found = some_there leaves k (omega arith) in
+    kept_known program best (box_at program nodes k) node found.0 (right.kept k node found.0 there found.1))
 
 -- ---- why a leaf is split, or cannot be
 
@@ -140,7 +152,7 @@ near_more None bound gap h = h
 -- a leaf whose bound no known point is near is to be split
 pub far_has_cut : (program : Program) (best : Option Best) (box : Bounds) (bound gap : ℕ) (cut : Option Cut) → IsCutOf program best box bound cut → (IsNear best bound gap → ⊥) → IsSome cut
 far_has_cut program best box bound gap (Some cut) h far = refl
-far_has_cut program best box bound gap None h far = absurd (far (near_more best bound gap h))
+far_has_cut program best box bound gap None h far = absurd (far (near_more best bound gap h.1))
 
 pub the_cut : (program : Program) (best : Option Best) (box : Bounds) (bound : ℕ) (o : Option Cut) (cut : Cut) → o ≡ Some cut → IsCutOf program best box bound o → CanCut program box cut × ShowsWhy program box cut.column cut.at bound cut.shown
 the_cut program best box bound o cut is h = rw is at h
@@ -268,10 +280,12 @@ split_kept program nodes before old new i leaf cut low high s k node o is there 
       ]
     ]
 
-split_shown : (program : Program) (nodes : List Node) (before : List (Option OpenLeaf)) (old new : Option Best) (i : ℕ) (leaf : OpenLeaf) (cut : Cut) (low high : Made) → IsSplitOf program nodes before old new i leaf cut low high
-    → (k : ℕ) (node : Node) → slice_get (split_nodes nodes i cut.column cut.at cut.shown low.node high.node) k ≡ Some node
-    → IsShown program leaf.bound (box_at program (split_nodes nodes i cut.column cut.at cut.shown low.node high.node) k) node
-split_shown program nodes before old new i leaf cut low high s k node is =
+-- what holds of each node in its box before a split holds after it, where it holds of the split and of the two leaves
+split_each : (P : Bounds → Node → Type 0) (program : Program) (nodes : List Node) (before : List (Option OpenLeaf)) (old new : Option Best) (i : ℕ) (leaf : OpenLeaf) (cut : Cut) (low high : Made) → IsSplitOf program nodes before old new i leaf cut low high
+    → ((k : ℕ) (node : Node) → slice_get nodes k ≡ Some node → P (box_at program nodes k) node) → P (box_at program nodes i) (Split cut.column cut.at (length nodes) (length nodes + 1) cut.shown)
+    → P (low_side (box_at program nodes i) cut.column cut.at) low.node → P (high_side (box_at program nodes i) cut.column cut.at) high.node
+    → (k : ℕ) (node : Node) → slice_get (split_nodes nodes i cut.column cut.at cut.shown low.node high.node) k ≡ Some node → P (box_at program (split_nodes nodes i cut.column cut.at cut.shown low.node high.node) k) node
+split_each P program nodes before old new i leaf cut low high s each here below above k node is =
     let can = can_split program nodes before old new i leaf cut low high s in
     let none = s.right.grown.right in
     let within = slice_get_within nodes i (Bound s.here.y) s.here.node in
@@ -279,13 +293,39 @@ split_shown program nodes before old new i leaf cut low high s k node is =
     let split = Split cut.column cut.at (length nodes) (length nodes + 1) cut.shown in
     elim (place_of nodes i split low.node high.node k node within is) [
       | written e f ↦
-          let why = (the_cut program old (box_at program nodes i) leaf.bound leaf.cut cut s.cut_is s.here.known.cut).1 in
           let same = ap (box_at program after) e ∙ box_kept program nodes i cut.column cut.at i cut.shown low.node high.node can none within in
-          rw f (subst (λ (b : Bounds). IsShown program leaf.bound b split) (sym same) (shown_split program leaf.bound (box_at program nodes i) cut.column cut.at (length nodes) (length nodes + 1) cut.shown why))
-      | kept e p q ↦ subst (λ (b : Bounds). IsShown program leaf.bound b node) (sym (box_kept program nodes i cut.column cut.at k cut.shown low.node high.node can none p)) (s.right.shown k node i leaf q s.least.there)
-      | first e f ↦ rw f (shown_leaf program leaf.bound _ (low_side (box_at program nodes i) cut.column cut.at) low.node s.low_made.right)
-      | second e f ↦ rw f (shown_leaf program leaf.bound _ (high_side (box_at program nodes i) cut.column cut.at) high.node s.high_made.right)
+          rw f (subst (λ (b : Bounds). P b split) (sym same) here)
+      | kept e p q ↦ subst (λ (b : Bounds). P b node) (sym (box_kept program nodes i cut.column cut.at k cut.shown low.node high.node can none p)) (each k node q)
+      | first e f ↦
+          let same = ap (box_at program after) e ∙ low_child_box program nodes i cut.column cut.at cut.shown low.node high.node can none in
+          rw f (subst (λ (b : Bounds). P b low.node) (sym same) below)
+      | second e f ↦
+          let same = ap (box_at program after) e ∙ high_child_box program nodes i cut.column cut.at cut.shown low.node high.node can none in
+          rw f (subst (λ (b : Bounds). P b high.node) (sym same) above)
     ]
+
+split_why : (program : Program) (nodes : List Node) (before : List (Option OpenLeaf)) (old new : Option Best) (i : ℕ) (leaf : OpenLeaf) (cut : Cut) (low high : Made) → IsSplitOf program nodes before old new i leaf cut low high
+    → ShowsWhy program (box_at program nodes i) cut.column cut.at leaf.bound cut.shown
+split_why program nodes before old new i leaf cut low high s = (the_cut program old (box_at program nodes i) leaf.bound leaf.cut cut s.cut_is s.here.known.cut).1
+
+split_shown : (program : Program) (nodes : List Node) (before : List (Option OpenLeaf)) (old new : Option Best) (i : ℕ) (leaf : OpenLeaf) (cut : Cut) (low high : Made) → IsSplitOf program nodes before old new i leaf cut low high
+    → (k : ℕ) (node : Node) → slice_get (split_nodes nodes i cut.column cut.at cut.shown low.node high.node) k ≡ Some node
+    → IsShown program leaf.bound (box_at program (split_nodes nodes i cut.column cut.at cut.shown low.node high.node) k) node
+split_shown program nodes before old new i leaf cut low high s =
+    let box = box_at program nodes i in
+    split_each (IsShown program leaf.bound) program nodes before old new i leaf cut low high s (λ k node is. s.right.shown k node i leaf is s.least.there)
+    (shown_split program leaf.bound box cut.column cut.at (length nodes) (length nodes + 1) cut.shown (split_why program nodes before old new i leaf cut low high s))
+    (shown_leaf program leaf.bound (low_side box cut.column cut.at) low.node s.low_made.right) (shown_leaf program leaf.bound (high_side box cut.column cut.at) high.node s.high_made.right)
+
+split_reasoned : (program : Program) (nodes : List Node) (before : List (Option OpenLeaf)) (old new : Option Best) (i : ℕ) (leaf : OpenLeaf) (cut : Cut) (low high : Made) → IsSplitOf program nodes before old new i leaf cut low high
+    → (k : ℕ) (node : Node) → slice_get (split_nodes nodes i cut.column cut.at cut.shown low.node high.node) k ≡ Some node
+    → IsReasoned program (box_at program (split_nodes nodes i cut.column cut.at cut.shown low.node high.node) k) node
+split_reasoned program nodes before old new i leaf cut low high s =
+    let box = box_at program nodes i in
+    split_each (IsReasoned program) program nodes before old new i leaf cut low high s s.right.reasoned
+    (reasoned_split program box cut.column cut.at (length nodes) (length nodes + 1) leaf.bound cut.shown (split_why program nodes before old new i leaf cut low high s))
+    (kept_reasoned program new (low_side box cut.column cut.at) low.node low.leaf s.low_made.kept s.low_made.right)
+    (kept_reasoned program new (high_side box cut.column cut.at) high.node high.leaf s.high_made.kept s.high_made.right)
 
 pub split_search : (program : Program) (nodes : List Node) (before : List (Option OpenLeaf)) (old new : Option Best) (i : ℕ) (leaf : OpenLeaf) (cut : Cut) (low high : Made) → IsSplitOf program nodes before old new i leaf cut low high
     → IsSearch program (split_nodes nodes i cut.column cut.at cut.shown low.node high.node) (slice_set before i None ++ low.leaf ∷ high.leaf ∷ []) new
@@ -296,6 +336,7 @@ split_search program nodes before old new i leaf cut low high s =
       grown = grow program nodes i cut.column cut.at cut.shown low.node high.node s.right.grown can;
       size = omega (arith, length-split nodes i cut.column cut.at cut.shown low.node high.node, length-append (slice_set before i None) (low.leaf ∷ high.leaf ∷ []), length-set before i None);
       kept = split_kept program nodes before old new i leaf cut low high s;
+      reasoned = split_reasoned program nodes before old new i leaf cut low high s;
       shown = λ k node j other is there. shown_rises program leaf.bound other.bound _ node (floor program nodes before old new i leaf cut low high s j other there) (split_shown program nodes before old new i leaf cut low high s k node is);
     }
 
@@ -326,9 +367,9 @@ one_kept : (program : Program) (best : Option Best) (node : Node) (leaf : Option
 one_kept program best node leaf right known zero other o is there = rw (sym (same_Some _ _ is), sym (same_Some _ _ there)) known
 one_kept program best node leaf right known (suc k) other o is there = absurd (cc)
 
-one_shown : (program : Program) (node : Node) → IsLeafOf program (full_box_of program) node → (k : ℕ) (other : Node) (lower : ℕ) → slice_get (node ∷ []) k ≡ Some other → IsShown program lower (box_at program (node ∷ []) k) other
-one_shown program node right zero other lower is = rw (sym (same_Some _ _ is)) (shown_leaf program lower _ (full_box_of program) node right)
-one_shown program node right (suc k) other lower is = absurd (cc)
+one_each : (P : Bounds → Node → Type 0) (program : Program) (node : Node) → P (full_box_of program) node → (k : ℕ) (other : Node) → slice_get (node ∷ []) k ≡ Some other → P (box_at program (node ∷ []) k) other
+one_each P program node here zero other is = rw (sym (same_Some _ _ is)) here
+one_each P program node here (suc k) other is = absurd (cc)
 
 -- the tree of a leaf alone
 pub one_search : (program : Program) (best : Option Best) (node : Node) (leaf : Option OpenLeaf) → IsLeafOf program (full_box_of program) node → IsKept program best (full_box_of program) node leaf → IsSearch program (node ∷ []) (leaf ∷ []) best
@@ -336,7 +377,8 @@ one_search program best node leaf right known = record {
   grown = one_leaf program node right;
   size = refl;
   kept = λ k other o is there. one_kept program best node leaf right known k other o is there;
-  shown = λ k other j open_leaf is there. one_shown program node right k other open_leaf.bound is;
+  reasoned = one_each (IsReasoned program) program node (kept_reasoned program best (full_box_of program) node leaf known right);
+  shown = λ k other j open_leaf is there. one_each (IsShown program open_leaf.bound) program node (shown_leaf program open_leaf.bound (full_box_of program) node right) k other is;
 }
 
 pub start_search : (program : Program) (best : Option Best) (node : Node) (leaf : Option OpenLeaf) (box : Bounds) (nodes : List Node) (fresh leaves : List (Option OpenLeaf)) → box ≡ full_box_of program → nodes ≡ node ∷ [] → fresh ≡ []

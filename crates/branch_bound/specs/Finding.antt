@@ -11,13 +11,16 @@ use Rattle.search_tree.specs.Growth.{SplitsCount}
 use Rattle.branch_bound.specs.declared.found.Best.{Best}
 use Rattle.branch_bound.specs.declared.found.Found.{Found}
 use Rattle.branch_bound.specs.declared.found.Found.TheVariants.{Plan, Empty, Limit}
-use Rattle.branch_bound.specs.Openings.{IsBestSince}
+use Rattle.exact_simplex.specs.Reasons.{AreReasoned, AreKnown}
+use Rattle.branch_bound.specs.Openings.{IsBestSince, HasWithin}
 
--- no rule is broken, there are no more nodes than the budget, and only count columns are split
+-- No rule is broken, there are no more nodes than the budget, and only count columns are split. A point that a split shows lies strictly
+-- inside it, a split that shows none is licensed, and a leaf that is not refuted is tight.
 pub record IsTreeWithin (program : Program) (nodes : List Node) (budget : ℕ) : Type 0 where
   pub right : fault_of_tree program nodes ≡ None
   pub few : length nodes ≤ budget
   pub counts : All (SplitsCount program) nodes
+  pub reasoned : AreReasoned program [] nodes
 
 -- no worse than the first whole point, where there is one
 abbrev pub IsNoWorse : Program → Option (List ℕ) → ℕ → Type 0
@@ -40,7 +43,7 @@ IsFar (Some best) gap lower = gap + lower < best.value
 IsFar None gap lower = ⊤
 
 -- The budget has no room for a split, and is less than it takes to try all ways to set the count columns. The best whole point that is
--- known, if one is, is above the tree's bound by more than the gap.
+-- known, if one is, is above the tree's bound by more than the gap, and is within the bound of each leaf that is not undecided.
 pub record IsLimit (program : Program) (first : Option (List ℕ)) (gap budget : ℕ) (best : Option Best) (lower : ℕ) (nodes : List Node) : Type 0 where
   pub no_room : budget < length nodes + 2
   pub short : budget + 1 < 2 * choices_of program.columns
@@ -48,6 +51,7 @@ pub record IsLimit (program : Program) (first : Option (List ℕ)) (gap budget :
   pub shown : AreShown program lower [] nodes
   pub known : IsBestSince program first best
   pub far : IsFar best gap lower
+  pub decided : AreKnown program (HasWithin best) [] nodes
 
 abbrev pub IsFound : Program → Option (List ℕ) → ℕ → ℕ → Found → Type 0
 IsFound program first gap budget (Plan point value lower tree) = IsTreeWithin program tree.nodes budget × IsPlan program first gap point value lower tree.nodes

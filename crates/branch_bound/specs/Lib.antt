@@ -2,6 +2,8 @@ pub mod Keys
 pub mod Slots
 pub mod Columns
 pub mod Openings
+pub mod Origins
+pub mod Relaxations
 pub mod Exploring
 pub mod Making
 pub mod Searching

@@ -10,6 +10,8 @@ use Rattle.bound_certificate.specs.declared.tree.Node.{Node}
 use Rattle.bound_certificate.specs.declared.tree.Node.TheVariants.{Split, Bound, Refute}
 use Rattle.bound_certificate.specs.Bound.{leaf_bound, RowsInRange}
 use Rattle.bound_certificate.specs.Shown.{Shows}
+use Rattle.exact_simplex.specs.Licences.{IsLicensed}
+use Rattle.exact_simplex.specs.Reasons.{HasPointWithin}
 use Rattle.branch_bound.specs.declared.found.Best.{Best}
 use Rattle.branch_bound.specs.declared.leaf.Cut.{Cut}
 use Rattle.branch_bound.specs.declared.leaf.OpenLeaf.{OpenLeaf}
@@ -49,19 +51,18 @@ pub record CanCut (program : Program) (box : Bounds) (cut : Cut) : Type 0 where
   pub above : slice_index box.low cut.column ≤ cut.at
   pub below : cut.at < slice_index box.high cut.column
 
--- the point tells why, where there is one, and its value, rounded up, is at most the bound
+-- the point tells why, where there is one, and its value, rounded up, is at most the bound; else the box is licensed
 abbrev pub ShowsWhy : Program → Bounds → ℕ → ℕ → ℕ → Option Point → Type 0
 ShowsWhy program box column at bound (Some point) = Shows program box column at bound point
-ShowsWhy program box column at bound None = ⊤
+ShowsWhy program box column at bound None = IsLicensed program box
 
--- the box can be split so, or a whole point within the bound is known
+-- the box can be split so, or some point of its relaxation and a whole point that is known are within the bound
 abbrev pub IsCutOf : Program → Option Best → Bounds → ℕ → Option Cut → Type 0
 IsCutOf program best box bound (Some cut) = CanCut program box cut × ShowsWhy program box cut.column cut.at bound cut.shown
-IsCutOf program best box bound None = HasWithin best bound
+IsCutOf program best box bound None = HasPointWithin program box bound × HasWithin best bound
 
 -- what is known of a leaf with these multipliers
 pub record IsOpenAt (program : Program) (best : Option Best) (box : Bounds) (y : Multipliers) (leaf : OpenLeaf) : Type 0 where
-  pub box_is : leaf.bounds ≡ box
   pub rows : RowsInRange program y
   pub bound_is : leaf.bound ≡ leaf_bound program box y
   pub helpers : HasFullHelpers program box

@@ -24,9 +24,9 @@ pub fn search(
     requires first { IfSome (option_copied first) (IsWholePoint program.now) }
     ensures { IfOk result (λ found. IsFound program.now (option_copied first.entry) gap nodes found) }
 {
-    let mut search = start(alloc, program, first)?;
+    let (origin, mut search) = start(alloc, program, first)?;
     loop {
-        match search.step(alloc, program, gap, nodes)? {
+        match search.step(alloc, program, &origin, gap, nodes)? {
             Step::Grown => {}
             Step::AllRefuted => {
                 return Ok(Found::Empty {

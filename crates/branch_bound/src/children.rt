@@ -5,10 +5,12 @@ ghost use Rattle.bound_certificate.specs.Bound.{RowsInRange};
 ghost use Rattle.bound_certificate.specs.Trees.{high_side, low_side};
 ghost use Rattle.branch_bound.specs.Making.{IsMade};
 ghost use Rattle.branch_bound.specs.Openings.{CanCut, HasFullHelpers, Improves, IsBestSince};
+ghost use Rattle.branch_bound.specs.Origins.{IsOrigin};
 
 use crate::found::Best;
 use crate::leaf::Cut;
 use crate::make::{Made, make};
+use crate::origin::Origin;
 use crate::sides::{high_side, low_side};
 use bound_certificate::Multipliers;
 use ip_model::{Bounds, Program};
@@ -18,6 +20,7 @@ use std::alloc::{AllocError, Global};
 pub fn children(
     alloc: Global,
     program: &Program,
+    origin: &Origin,
     bounds: &Bounds,
     cut: &Cut,
     parent: &Multipliers,
@@ -25,6 +28,7 @@ pub fn children(
 ) -> Result<(Made, Made), AllocError>
     requires is_box { IsBoxOf program.now bounds.now }
     requires helpers { HasFullHelpers program.now bounds.now }
+    requires origin { IsOrigin program.now origin.now }
     requires cut { CanCut program.now bounds.now cut.now }
     requires parent { RowsInRange program.now parent.now }
     ensures low { IfOk result (λ made. IsMade program.now best.new (low_side bounds.now cut.now.column cut.now.at) parent.now made.0) }
@@ -34,7 +38,7 @@ pub fn children(
 {
     let below = low_side(alloc, bounds, cut.column, cut.at)?;
     let above = high_side(alloc, bounds, cut.column, cut.at)?;
-    let low = make(alloc, program, below, parent, best)?;
-    let high = make(alloc, program, above, parent, best)?;
+    let low = make(alloc, program, origin, &below, parent, best)?;
+    let high = make(alloc, program, origin, &above, parent, best)?;
     Ok((low, high))
 }

@@ -7,7 +7,7 @@ ghost use Rattle.branch_bound.specs.Columns.{IsFractional, IsWideColumn};
 use ip_model::{Bounds, Mark, Point, Program};
 
 /// Whether a column counts servers.
-fn is_count(program: &Program, column: u32) -> bool
+pub(crate) fn is_count(program: &Program, column: u32) -> bool
     requires { column < length program.now.columns }
     ensures { result ≡ not (helper_at program.now.columns column) }
 {
@@ -43,7 +43,7 @@ pub fn wide_column(program: &Program, bounds: &Bounds) -> Option<u32>
 }
 
 /// Whether a column is a count column in which the point is between two whole numbers.
-fn is_fractional(program: &Program, point: &Point, column: u32) -> bool
+pub(crate) fn is_fractional(program: &Program, point: &Point, column: u32) -> bool
     requires size { length point.now.part ≡ length program.now.columns }
     requires there { column < length program.now.columns }
     ensures between { IsTrue result → IsFractional program.now point.now column }
@@ -53,19 +53,4 @@ fn is_fractional(program: &Program, point: &Point, column: u32) -> bool
         return false;
     }
     point.part.as_slice()[column as usize] > 0
-}
-
-/// The first count column in which the point is between two whole numbers. Columns go class by class, so a branch settles one class after
-/// the other, which closed more gaps than to take the most fractional column.
-pub fn fractional_column(program: &Program, point: &Point) -> Option<u32>
-    requires { length point.now.part ≡ length program.now.columns }
-    ensures some { IfSome result (λ column. IsFractional program.now point.now column) }
-    ensures none { IfNone result ((j : ℕ) → j < length program.now.columns → helper_at program.now.columns j ≡ false → slice_index point.now.part j ≡ 0) }
-{
-    for column in 0..program.columns.len() {
-        if is_fractional(program, point, column) {
-            return Some(column);
-        }
-    }
-    None
 }

@@ -1,6 +1,6 @@
 //! Leaves that are open.
 
-use ip_model::{Bounds, Point};
+use ip_model::Point;
 
 /// How the box of a leaf is to be split: in a column at `at`, and the point that tells why, if there is one.
 #[derive(Debug, Drop)]
@@ -10,12 +10,11 @@ pub struct Cut {
     pub shown: Option<Point>,
 }
 
-/// A leaf that is not refuted: its bound, its box, and how it is to be split. One without a cut need not be split, since a whole
-/// point is known whose value is at most the bound.
+/// A leaf that is not refuted: its bound, and how it is to be split. One without a cut need not be split, since a whole point is known
+/// whose value is at most the bound. Its box is found in the tree when it is split.
 #[derive(Debug, Drop)]
 pub struct OpenLeaf {
     pub bound: u64,
-    pub bounds: Bounds,
     pub cut: Option<Cut>,
 }
 

@@ -7,8 +7,14 @@ mod columns;
 mod explore;
 mod found;
 mod frontier;
+mod gains;
+#[cfg(test)]
+mod gains_tests;
+mod heuristics;
 mod leaf;
 mod make;
+mod origin;
+mod relaxing;
 mod sides;
 mod state;
 #[cfg(test)]

@@ -1,15 +1,19 @@
 //! New leaves.
-ghost use Rattle.std.specs.Prelude.{◌≡◌, ◌≤◌, ◌⊎◌, ℕ, IfOk, OnOk, List, Option, Some};
+ghost use Rattle.std.specs.Prelude.{◌≡◌, ◌≤◌, ℕ, IfOk, OnOk, List, Option};
 ghost use Rattle.ip_model.specs.Points.{IsBoxOf};
 ghost use Rattle.bound_certificate.specs.Bound.{leaf_bound, RowsInRange};
 ghost use Rattle.search_tree.specs.Growth.{IsLeafOf};
 ghost use Rattle.branch_bound.specs.declared.found.Best.{Best};
+ghost use Rattle.branch_bound.specs.Exploring.{IsExplored};
 ghost use Rattle.branch_bound.specs.Making.{IsNoLess};
-ghost use Rattle.branch_bound.specs.Openings.{HasFullHelpers, HasWithin, Improves, IsBest, IsBestSince, IsCutOf, IsKept};
+ghost use Rattle.branch_bound.specs.Openings.{HasFullHelpers, Improves, IsBestSince, IsCutOf, IsKept};
+ghost use Rattle.branch_bound.specs.Origins.{IsOrigin};
 
 use crate::explore::{Explored, explore};
 use crate::found::Best;
+use crate::heuristics::{keep_better, offer_explored};
 use crate::leaf::{Cut, OpenLeaf};
+use crate::origin::Origin;
 use bound_certificate::{Multipliers, Node, Sums, bound};
 use ip_model::{Bounds, Program};
 use ras_table::List;
@@ -63,60 +67,48 @@ fn better(
 fn opened(
     alloc: Global,
     program: &Program,
-    bounds: Bounds,
+    bounds: &Bounds,
     duals: Multipliers,
     cut: Option<Cut>,
     parent: &Multipliers,
 ) -> Result<Made, AllocError>
-    requires is_box { IsBoxOf program.now bounds }
-    requires helpers { HasFullHelpers program.now bounds }
+    requires is_box { IsBoxOf program.now bounds.now }
+    requires helpers { HasFullHelpers program.now bounds.now }
     requires own { RowsInRange program.now duals }
     requires parent { RowsInRange program.now parent.now }
-    ensures leaf { IfOk result (λ made. IsLeafOf program.now bounds made.node) }
-    ensures parent { IfOk result (λ made. IsNoLess program.now bounds parent.now made.leaf) }
-    ensures kept { IfOk result (λ made. (best : Option Best) → IsCutOf program.now best bounds (leaf_bound program.now bounds duals) cut → IsKept program.now best bounds made.node made.leaf) }
+    ensures leaf { IfOk result (λ made. IsLeafOf program.now bounds.now made.node) }
+    ensures parent { IfOk result (λ made. IsNoLess program.now bounds.now parent.now made.leaf) }
+    ensures kept { IfOk result (λ made. (best : Option Best) → IsCutOf program.now best bounds.now (leaf_bound program.now bounds.now duals) cut → IsKept program.now best bounds.now made.node made.leaf) }
 {
-    let (y, bound) = better(alloc, program, &bounds, duals, parent)?;
-    let leaf = OpenLeaf { bound, bounds, cut };
+    let (y, bound) = better(alloc, program, bounds, duals, parent)?;
+    let leaf = OpenLeaf { bound, cut };
     Ok(Made {
         node: Node::Bound(y),
         leaf: Some(leaf),
     })
 }
 
-/// Keeps a whole point where it is better than what is known.
-pub fn keep_better(best: &mut Option<Best>, found: Best)
-    ensures improves { Improves best.old best.new }
-    ensures within { HasWithin best.new found.value }
-    ensures either { (best.new ≡ best.old) ⊎ (best.new ≡ Some found) }
-{
-    if let Some(known) = best {
-        if known.value <= found.value {
-            return;
-        }
-    }
-    *best = Some(found);
-}
-
-/// A new leaf with this box. It keeps its own multipliers or its parent's, by which bound more. A whole point that is found there is kept
-/// where it is better than what is known. The only fault is want of memory.
-pub fn make(
+/// A new leaf with a box in which this was found. It keeps its own multipliers or its parent's, by which bound more. A whole point that
+/// was found is kept where it is better than what is known. The only fault is want of memory.
+pub fn leaf_of(
     alloc: Global,
     program: &Program,
-    bounds: Bounds,
+    bounds: &Bounds,
+    explored: Explored,
     parent: &Multipliers,
     best: &mut Option<Best>,
 ) -> Result<Made, AllocError>
-    requires is_box { IsBoxOf program.now bounds }
-    requires helpers { HasFullHelpers program.now bounds }
+    requires is_box { IsBoxOf program.now bounds.now }
+    requires helpers { HasFullHelpers program.now bounds.now }
+    requires explored { IsExplored program.now bounds.now explored }
     requires parent { RowsInRange program.now parent.now }
-    ensures leaf { IfOk result (λ made. IsLeafOf program.now bounds made.node) }
-    ensures kept { IfOk result (λ made. IsKept program.now best.new bounds made.node made.leaf) }
-    ensures parent { IfOk result (λ made. IsNoLess program.now bounds parent.now made.leaf) }
+    ensures leaf { IfOk result (λ made. IsLeafOf program.now bounds.now made.node) }
+    ensures kept { IfOk result (λ made. IsKept program.now best.new bounds.now made.node made.leaf) }
+    ensures parent { IfOk result (λ made. IsNoLess program.now bounds.now parent.now made.leaf) }
     ensures improves { OnOk result (Improves best.old best.new) }
     ensures best { OnOk result ((first : Option (List ℕ)) → IsBestSince program.now first best.old → IsBestSince program.now first best.new) }
 {
-    match explore(alloc, program, &bounds)? {
+    match explored {
         Explored::Refuted(y) => Ok(Made {
             node: Node::Refute(y),
             leaf: None,
@@ -129,4 +121,29 @@ pub fn make(
             opened(alloc, program, bounds, duals, Some(cut), parent)
         }
     }
+}
+
+/// A new leaf with this box. A whole point that is found there, or by moves from its relaxation's point, is kept where it is better than
+/// what is known. The only fault is want of memory.
+pub fn make(
+    alloc: Global,
+    program: &Program,
+    origin: &Origin,
+    bounds: &Bounds,
+    parent: &Multipliers,
+    best: &mut Option<Best>,
+) -> Result<Made, AllocError>
+    requires is_box { IsBoxOf program.now bounds.now }
+    requires helpers { HasFullHelpers program.now bounds.now }
+    requires origin { IsOrigin program.now origin.now }
+    requires parent { RowsInRange program.now parent.now }
+    ensures leaf { IfOk result (λ made. IsLeafOf program.now bounds.now made.node) }
+    ensures kept { IfOk result (λ made. IsKept program.now best.new bounds.now made.node made.leaf) }
+    ensures parent { IfOk result (λ made. IsNoLess program.now bounds.now parent.now made.leaf) }
+    ensures improves { OnOk result (Improves best.old best.new) }
+    ensures best { OnOk result ((first : Option (List ℕ)) → IsBestSince program.now first best.old → IsBestSince program.now first best.new) }
+{
+    let explored = explore(alloc, program, origin, bounds)?;
+    offer_explored(alloc, program, &origin.layout, &explored, false, best)?;
+    leaf_of(alloc, program, bounds, explored, parent, best)
 }

@@ -24,7 +24,7 @@ fn mark_of(helper: bool) -> Mark
 }
 
 /// Columns of these costs and tops, helpers where it is told.
-fn columns_of(alloc: Global, given: &[(u32, u32, bool)]) -> Result<List<Column>, AllocError>
+pub fn columns_of(alloc: Global, given: &[(u32, u32, bool)]) -> Result<List<Column>, AllocError>
     requires { length given.now < 2 ^ 32 }
     ensures { IfOk result (λ columns. columns ≡ map (λ g. record { cost = g.0; top = g.1; mark = if g.2 then Share 0 else Count 0 None }) given.now) }
 {
@@ -59,7 +59,7 @@ fn row_of(alloc: Global, given: &[(u32, i32)], least: i32) -> Result<Line, Alloc
 }
 
 /// Rows with these columns and factors, and what each asks for.
-fn rows_of(alloc: Global, given: &[(&[(u32, i32)], i32)]) -> Result<List<Line>, AllocError>
+pub fn rows_of(alloc: Global, given: &[(&[(u32, i32)], i32)]) -> Result<List<Line>, AllocError>
     requires few { length given.now < 2 ^ 32 }
     requires terms { All (λ g. length g.0.now < 2 ^ 32) given.now }
     ensures { IfOk result (λ rows. rows ≡ map (λ g. record { terms = map (λ t. record { column = t.0; factor = t.1 }) g.0.now; least = g.1; kind = Total }) given.now) }
@@ -377,7 +377,7 @@ fn first_missed_of_twenty(alloc: Global) -> Result<Option<usize>, AllocError> {
 }
 
 /// Three servers, alone on a switchboard each. Without any one switchboard one is still to serve, at a cost of 2.
-fn three_servers(alloc: Global) -> Result<Program, AllocError> {
+pub fn three_servers(alloc: Global) -> Result<Program, AllocError> {
     let rows = rows_of(
         alloc,
         &[

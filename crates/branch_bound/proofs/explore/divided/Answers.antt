@@ -5,6 +5,12 @@ use Rattle.branch_bound.specs.Openings.{CanCut}
 use Rattle.branch_bound.proofs.ExploreFacts.{fractional_cut}
 use Rattle.branch_bound.proofs.explore.divided.Goals as goal
 
+pub split_column-requires-clause-rows : goal.split_column-requires-clause-rows
+split_column-requires-clause-rows c = c.requires.standing.stands.rows
+
+pub split_column-requires-clause-units : goal.split_column-requires-clause-units
+split_column-requires-clause-units c = c.requires.standing.stands.shows.units_size
+
 pub returns : goal.returns
 returns c =
     let program = c.args.program.now in

@@ -1,6 +1,7 @@
 use Rattle.std.proofs.Common.{arith, refl, inl, inr}
 use Rattle.search_tree.specs.Boxes.{box_at}
-use Rattle.branch_bound.proofs.StateFacts.{opened, none_left, none_then, least_bound_is, all_shown, far_has_cut, full_short}
+use Rattle.branch_bound.proofs.ReasonFacts.{reasoned_walk}
+use Rattle.branch_bound.proofs.StateFacts.{opened, none_left, none_then, least_bound_is, all_known, all_shown, far_has_cut, full_short}
 use Rattle.branch_bound.proofs.state.Search.step.Goals as goal
 
 pub returns-in_default-clause-step : goal.returns-in_default-clause-step
@@ -8,6 +9,7 @@ returns-in_default-clause-step c = (
   c.requires.right.grown,
   refl,
   none_left c.args.program.now c.args.self.now.tree c.args.self.now.frontier c.args.self.now.best c.requires.right (none_then c.pop.result _ c.in_default.not-Some c.pop.ensures.none),
+  reasoned_walk c.args.program.now c.args.self.now.tree c.requires.right.reasoned,
 )
 
 pub returns-then-is_near-clause-step : goal.returns-then-is_near-clause-step
@@ -18,6 +20,8 @@ returns-then-is_near-clause-step c =
       record {
         bound = least_bound_is c.args.program.now c.args.self.now.tree c.args.self.now.frontier c.args.self.now.best c.in-Some.node c.in-Some.leaf c.requires.right least;
         shown = all_shown c.args.program.now c.args.self.now.tree c.args.self.now.frontier c.args.self.now.best c.in-Some.node c.in-Some.leaf c.requires.right least.there;
+        reasoned = reasoned_walk c.args.program.now c.args.self.now.tree c.requires.right.reasoned;
+        decided = all_known c.args.program.now c.args.self.now.tree c.args.self.now.frontier c.args.self.now.best c.requires.right;
         over = inl (c.is_near.ensures.0 c.if-is_near.true);
       },
     )
@@ -36,6 +40,8 @@ returns-then-len-nodes-clause-step c =
       record {
         bound = least_bound_is program nodes c.args.self.now.frontier best c.in-Some.node leaf c.requires.right least;
         shown = all_shown program nodes c.args.self.now.frontier best c.in-Some.node leaf c.requires.right least.there;
+        reasoned = reasoned_walk program nodes c.requires.right.reasoned;
+        decided = all_known program nodes c.args.self.now.frontier best c.requires.right;
         over = inr (full_short program nodes c.args.self.now.frontier best c.in-Some.node c.args.nodes leaf c.requires.right least.there has (omega arith));
       },
     )
