@@ -1,0 +1,13 @@
+pub mod Lists
+pub mod Changes
+pub mod Costs
+pub mod Nearby
+pub mod Begun
+pub mod Bounds
+pub mod Places
+pub mod Next
+pub mod Prices
+pub mod Starts
+pub mod Columns
+pub mod Writes
+pub mod Twins

@@ -1,0 +1,4 @@
+pub mod Steady
+pub mod Tables
+pub mod Local
+pub mod Laws
