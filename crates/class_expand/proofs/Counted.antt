@@ -17,7 +17,7 @@ use Rattle.ip_model.specs.declared.parts.Column.{Column}
 use Rattle.ip_model.specs.declared.program.Program.{Program}
 use Rattle.ip_model.specs.Points.{IsWholePoint, value_of}
 use Rattle.program_rows.specs.declared.phases.Phase.{Phase}
-use Rattle.program_rows.specs.Phases.{phase_allowed, phase_cost}
+use Rattle.program_rows.specs.Phases.{phase_allowed, phase_cost, start_allowed}
 use Rattle.program_rows.specs.Settings.{setting_of, start_fits, movable_servers, phase_classes}
 use Rattle.program_rows.specs.Programs.{program_columns}
 use Rattle.program_rows.specs.Sizes.{IsGrouped}
@@ -26,7 +26,7 @@ use Rattle.program_rows.proofs.LineLimits.{read-within}
 use Rattle.program_rows.proofs.Lists.{All-map_to}
 use Rattle.program_rows.proofs.Parts.{columns-all}
 use Rattle.program_rows.proofs.ReachLimits.{servers-within}
-use Rattle.class_expand.specs.Dealing.{start_allowed, IsProgramFor}
+use Rattle.class_expand.specs.Dealing.{IsProgramFor}
 use Rattle.class_expand.specs.Lifting.{counts_of, mark_in_range, number_among}
 use Rattle.class_expand.proofs.Started.{is-phase, is-program}
 use Rattle.class_expand.proofs.WholePoint.{allowed-is_point}

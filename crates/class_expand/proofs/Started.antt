@@ -11,11 +11,11 @@ use Rattle.ip_model.specs.Points.{IsWholePoint, value_of}
 use Rattle.plan_model.proofs.SumLemmas.{length-fits}
 use Rattle.program_rows.specs.declared.phases.Phase.{Phase}
 use Rattle.program_rows.specs.declared.phases.Phase.TheVariants.{Region, Rack}
-use Rattle.program_rows.specs.Phases.{IsPhase, phase_allowed, phase_cost}
+use Rattle.program_rows.specs.Phases.{IsPhase, phase_allowed, phase_cost, start_allowed}
 use Rattle.program_rows.specs.Settings.{setting_of, start_fits, phase_classes}
 use Rattle.program_rows.specs.Sizes.{IsGrouped}
 use Rattle.program_rows.proofs.ReachLimits.{servers-within}
-use Rattle.class_expand.specs.Dealing.{start_allowed, IsProgramFor, AreDealt, deal}
+use Rattle.class_expand.specs.Dealing.{IsProgramFor, AreDealt, deal}
 use Rattle.class_expand.specs.Lifting.{IsProgramOf, Expands}
 use Rattle.class_expand.proofs.Back.{point-is_allowed}
 use Rattle.class_expand.proofs.Expansions.{are-dealt, expands-right}

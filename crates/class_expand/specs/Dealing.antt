@@ -1,21 +1,13 @@
 -- How the members of classes are handed out by a point of the program.
-use Rattle.std.specs.Prelude.{ℕ, ◌≡◌, ◌<◌, ◌==◌, Bool, true, if◌then◌else◌, List, [], ◌∷◌, ◌++◌, All, length, replicate, Option, Some, None, slice_get, slice_set}
+use Rattle.std.specs.Prelude.{ℕ, ◌≡◌, ◌<◌, ◌==◌, if◌then◌else◌, List, [], ◌∷◌, ◌++◌, All, length, replicate, Option, Some, None, slice_get, slice_set}
 use Rattle.plan_model.specs.declared.cases.Case.{Case}
-use Rattle.plan_model.specs.Allowed.{region_allowed}
 use Rattle.ip_model.specs.declared.parts.Mark.{Mark}
 use Rattle.ip_model.specs.declared.parts.Mark.TheVariants.{Count}
 use Rattle.ip_model.specs.declared.parts.Column.{Column}
 use Rattle.ip_model.specs.declared.program.Program.{Program}
 use Rattle.symmetry_classes.specs.declared.groups.Class.{Class}
-use Rattle.program_rows.specs.declared.phases.Phase.{Phase}
-use Rattle.program_rows.specs.declared.phases.Phase.TheVariants.{Region, Rack}
 use Rattle.program_rows.specs.Settings.{Setting}
 use Rattle.program_rows.specs.Programs.{program_base, program_columns, program_lines}
-
--- in the rack phase, the region's assignment is allowed
-abbrev pub start_allowed : Case → Phase → Bool
-start_allowed case Region = true
-start_allowed case (Rack from chosen) = region_allowed case from.now
 
 -- the program of a phase over these classes
 pub record IsProgramFor (case : Case) (setting : Setting) (classes : List Class) (program : Program) : Type 0 where

@@ -7,10 +7,10 @@ ghost use Rattle.plan_model.specs.Costs.{board_units, greatest};
 ghost use Rattle.plan_model.specs.Units.{units_in_center as center_units_of, units_on_board as board_units_of, units_on_rack as rack_units_of, want_of};
 ghost use Rattle.ip_model.specs.Points.{IsWholePoint, value_of};
 ghost use Rattle.program_rows.specs.Members.{gets, members_with as members_with_of};
-ghost use Rattle.program_rows.specs.Phases.{phase_allowed, phase_cost};
+ghost use Rattle.program_rows.specs.Phases.{phase_allowed, phase_cost, start_allowed};
 ghost use Rattle.program_rows.specs.Settings.{setting_of, phase_classes};
 ghost use Rattle.program_rows.specs.Sizes.{IsGrouped};
-ghost use Rattle.class_expand.specs.Dealing.{IsProgramFor, start_allowed};
+ghost use Rattle.class_expand.specs.Dealing.{IsProgramFor};
 ghost use Rattle.class_expand.specs.Lifting.{counts_of, lack as lack_of, mark_in_range, number_among};
 
 use ip_model::{Mark, Program};

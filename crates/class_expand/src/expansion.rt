@@ -3,10 +3,10 @@ ghost use Rattle.std.specs.Prelude.{◌≡◌, ◌<◌, ◌≤◌, ◌^◌, All,
 ghost use Rattle.std.specs.List.{enumerate_from};
 ghost use Rattle.plan_model.specs.declared.cases.Grouping.{Grouping};
 ghost use Rattle.ip_model.specs.Points.{IsWholePoint, value_of};
-ghost use Rattle.program_rows.specs.Phases.{phase_allowed, phase_cost};
+ghost use Rattle.program_rows.specs.Phases.{phase_allowed, phase_cost, start_allowed};
 ghost use Rattle.program_rows.specs.Settings.{setting_of, phase_classes};
 ghost use Rattle.program_rows.specs.Sizes.{IsGrouped};
-ghost use Rattle.class_expand.specs.Dealing.{AreDealt, IsProgramFor, deal, dealt, given_by, goes_to as goes_to_of, put_all, start_allowed};
+ghost use Rattle.class_expand.specs.Dealing.{AreDealt, IsProgramFor, deal, dealt, given_by, goes_to as goes_to_of, put_all};
 ghost use Rattle.class_expand.specs.Lifting.{Expands};
 
 use ip_model::{Column, Mark, Program};
@@ -93,6 +93,7 @@ pub fn expand(
     requires whole_point { IsWholePoint program.now point.now }
     requires begins { a.old.of ≡ (setting_of case.now phase.now).start.of }
     ensures expands { (how : Grouping) → classes.now.list ≡ phase_classes case.now (setting_of case.now phase.now) how → Expands case.now (setting_of case.now phase.now) how point.now a.new }
+    ensures dealt { a.new.of ≡ fold (deal program.now.columns point.now) a.old.of (enumerate_from 0 classes.now.list) }
     ensures allowed { IsTrue (phase_allowed case.now (setting_of case.now phase.now) a.new) }
     ensures cost { phase_cost case.now (setting_of case.now phase.now) a.new ≤ value_of program.now point.now }
 {

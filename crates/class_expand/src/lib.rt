@@ -11,3 +11,4 @@ pub use laws::{
     allowed_is_whole_point, chosen_are_there, program_keeps_limits, rack_lifts, region_lifts,
     whole_point_is_allowed,
 };
+pub use steady_plans::settle;

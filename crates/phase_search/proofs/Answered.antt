@@ -18,6 +18,8 @@ use Rattle.program_rows.specs.Settings.{Setting, setting_of, phase_classes}
 use Rattle.program_rows.specs.Phases.{phase_allowed, phase_cost}
 use Rattle.program_rows.specs.Programs.{program_columns, program_fits}
 use Rattle.program_rows.specs.Accepted.{IsRightTree, IsSpent}
+use Rattle.exact_simplex.specs.Reasons.{AreReasoned, AreKnown}
+use Rattle.steady_plans.specs.Steady.{IsSteady}
 use Rattle.plan_document.specs.declared.document.Answer.{Answer}
 use Rattle.plan_document.specs.declared.document.Answer.TheVariants as answer
 use Rattle.plan_document.specs.declared.part.Planned.{Planned}
@@ -26,6 +28,7 @@ use Rattle.plan_checker.specs.Accepted.{IsRightPlan}
 use Rattle.plan_checker.specs.Reasons.{is_closed}
 use Rattle.plan_checker.specs.Shape.{PlanInRange}
 use Rattle.branch_bound.specs.Finding.{IsTreeWithin}
+use Rattle.phase_search.specs.Causes.{HasCauses, HasPlanWithin}
 use Rattle.phase_search.specs.Phases.{IsPrepared, IsPlanOf}
 use Rattle.phase_search.specs.Points.{without_point, shows_points}
 use Rattle.phase_search.specs.Solved.{IsSolved}
@@ -76,6 +79,7 @@ module _ (case : Case) (phase : Phase) (how : Grouping) (classes : List Class) (
         refuted = λ e. cc;
         spent = λ e. cc;
         too_few = λ e. cc;
+        causes = λ e. cc;
         points = λ _. ap shows_points hidden ∙ hidden-shows tree;
         no_worse = no_worse;
       }
@@ -94,6 +98,7 @@ module _ (case : Case) (phase : Phase) (how : Grouping) (classes : List Class) (
         refuted = λ _. ap (list_all is_closed) hidden ∙ hidden-closed tree ∙ all-closed program tree bound;
         spent = λ e. cc;
         too_few = λ e. cc;
+        causes = λ e. cc;
         points = λ _. ap shows_points hidden ∙ hidden-shows tree;
         no_worse = subst (λ (o : Option Assignment). IfSome o (λ a. ⊥)) (sym no_first) tt;
       }
@@ -112,12 +117,22 @@ module _ (case : Case) (phase : Phase) (how : Grouping) (classes : List Class) (
     shown = shown;
   }
 
+  its-causes : (part : Part) → AreReasoned program [] part.tree.nodes → AreKnown program (HasPlanWithin part.plan) [] part.tree.nodes → IfSome part.plan (λ p. IsSteady case setting p.of)
+      → HasCauses case setting how part
+  its-causes part reasoned known steady = record {
+    program = program;
+    is_program = program-is case phase how classes program prepared;
+    reasoned = reasoned;
+    decided = known;
+    steady = steady;
+  }
+
   -- the budget is spent, and the gap is wide
   pub wide-solved : (after : Tree) (plan : Planned) (lower most : ℕ) → IsTreeWithin program after.nodes budget → bound_of_tree program after.nodes ≡ At lower
       → budget < length after.nodes + 2 → AreShown program lower [] after.nodes → budget + 1 < 2 * choices_of program.columns
-      → IsPlanOf case setting most lower plan → wanted < plan.gap → IfSome first (λ a. plan.value ≤ phase_cost case setting a)
-      → Solved answer.Limit (record { plan = Some plan; lower = Some lower; tree = after })
-  wide-solved after plan lower most tree-is bound used shown few is wide no_worse = record {
+      → AreKnown program (HasPlanWithin (Some plan)) [] after.nodes → IsPlanOf case setting most lower plan → IsSteady case setting plan.of → wanted < plan.gap
+      → IfSome first (λ a. plan.value ≤ phase_cost case setting a) → Solved answer.Limit (record { plan = Some plan; lower = Some lower; tree = after })
+  wide-solved after plan lower most tree-is bound used shown few known is steady wide no_worse = record {
     right = record { plan = right-plan most lower plan is; tree = right-tree (Some lower) after.nodes tree-is.right bound };
     range = record { plan = in_range case setting most lower plan is; bound = tt; lower = bound-small program after.nodes lower bound };
     members = tt;
@@ -126,15 +141,16 @@ module _ (case : Case) (phase : Phase) (how : Grouping) (classes : List Class) (
     refuted = λ e. cc;
     spent = λ _. spent-budget after.nodes (Some plan.gap) lower tree-is used shown wide;
     too_few = λ _. columns-choices few;
+    causes = λ _. its-causes (record { plan = Some plan; lower = Some lower; tree = after }) tree-is.reasoned known steady;
     points = λ other. absurd (other refl);
     no_worse = no_worse;
   }
 
   -- the budget is spent, and there is no plan
   pub bare-solved : (after : Tree) (lower : ℕ) → IsTreeWithin program after.nodes budget → bound_of_tree program after.nodes ≡ At lower
-      → budget < length after.nodes + 2 → AreShown program lower [] after.nodes → budget + 1 < 2 * choices_of program.columns → first ≡ None
-      → Solved answer.Limit (record { plan = None; lower = Some lower; tree = after })
-  bare-solved after lower tree-is bound used shown few no_first = record {
+      → budget < length after.nodes + 2 → AreShown program lower [] after.nodes → budget + 1 < 2 * choices_of program.columns
+      → AreKnown program (HasPlanWithin None) [] after.nodes → first ≡ None → Solved answer.Limit (record { plan = None; lower = Some lower; tree = after })
+  bare-solved after lower tree-is bound used shown few known no_first = record {
     right = record { plan = tt; tree = right-tree (Some lower) after.nodes tree-is.right bound };
     range = record { plan = tt; bound = tt; lower = bound-small program after.nodes lower bound };
     members = tt;
@@ -143,6 +159,7 @@ module _ (case : Case) (phase : Phase) (how : Grouping) (classes : List Class) (
     refuted = λ e. cc;
     spent = λ _. spent-budget after.nodes None lower tree-is used shown tt;
     too_few = λ _. columns-choices few;
+    causes = λ _. its-causes (record { plan = None; lower = Some lower; tree = after }) tree-is.reasoned known tt;
     points = λ other. absurd (other refl);
     no_worse = subst (λ (o : Option Assignment). IfSome o (λ a. ⊥)) (sym no_first) tt;
   }

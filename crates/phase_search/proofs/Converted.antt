@@ -35,6 +35,7 @@ module _ (allows other : Assignment → Bool) (cost another : Assignment → ℕ
     refuted = h.refuted;
     spent = h.spent;
     too_few = h.too_few;
+    causes = h.causes;
     points = h.points;
     no_worse = no_worse-other first part.plan h.no_worse;
   }

@@ -1,7 +1,6 @@
 -- What the search found, and the part that is made of it.
 use Rattle.std.proofs.Common.{◌≡◌, refl, ℕ, ◌<◌, ◌≤◌, true, List, map, subst, arith, Some, None}
 use Rattle.std.specs.Prelude.{Option, IfSome}
-use Rattle.std.specs.Option.{IsSomeAnd}
 use Rattle.plan_model.specs.declared.cases.Case.{Case}
 use Rattle.plan_model.specs.declared.cases.Assignment.{Assignment}
 use Rattle.plan_model.specs.declared.cases.Grouping.{Grouping}
@@ -17,6 +16,7 @@ use Rattle.plan_document.specs.declared.document.Answer.{Answer}
 use Rattle.plan_document.specs.declared.document.Answer.TheVariants as answer
 use Rattle.plan_document.specs.declared.part.Planned.{Planned}
 use Rattle.plan_document.specs.declared.part.Part.{Part}
+use Rattle.steady_plans.specs.Steady.{IsSteady}
 use Rattle.branch_bound.specs.declared.found.Best.{Best}
 use Rattle.branch_bound.specs.declared.found.Found.{Found}
 use Rattle.branch_bound.specs.declared.found.Found.TheVariants.{Plan, Empty, Limit}
@@ -25,6 +25,7 @@ use Rattle.branch_bound.specs.Openings.{HasWithin, IsBestSince}
 use Rattle.phase_search.specs.Phases.{IsPrepared, IsPlanOf, IsFirstPoint}
 use Rattle.phase_search.specs.Points.{without_point}
 use Rattle.phase_search.specs.Solved.{IsSolved}
+use Rattle.phase_search.proofs.Known.{known-plan, known-none}
 use Rattle.phase_search.proofs.Prepared.{bound-under, none-first, first-at_most, first-none}
 use Rattle.phase_search.proofs.Answered.{plan-solved, none-solved, wide-solved, bare-solved}
 
@@ -99,6 +100,7 @@ module _ (case : Case) (phase : Phase) (how : Grouping) (classes : List Class) (
     pub bare-ends : best ≡ None → Solved answer.Limit (record { plan = None; lower = Some lower; tree = tree })
     bare-ends none =
         bare-solved case phase how classes program prepared small wanted budget first tree lower limit-found.0 limit-found.1.bound limit-found.1.no_room limit-found.1.shown limit-found.1.short
+        (known-none program best tree.nodes none limit-found.1.decided)
         (first-none program (phase_cost case setting) first point is_first
         (subst (λ (o : Option (List ℕ)). IfSome o (λ p. ⊥)) same (seen-none program best seen limit-found.1.known none)))
 
@@ -106,8 +108,11 @@ module _ (case : Case) (phase : Phase) (how : Grouping) (classes : List Class) (
       pub limit-whole : IsWholePoint program b.point
       limit-whole = (limit-found.1.known.right b some).whole
 
+      within-best : (plan : Planned) → IsPlanOf case setting (value_of program b.point) lower plan → plan.value ≤ b.value
+      within-best plan planned = omega (arith, planned.no_more, (limit-found.1.known.right b some).value_is)
+
       not-dearer : (plan : Planned) → IsPlanOf case setting (value_of program b.point) lower plan → IfSome first (λ a. plan.value ≤ phase_cost case setting a)
-      not-dearer plan planned = no_worse b.value plan.value (omega (arith, planned.no_more, (limit-found.1.known.right b some).value_is)) (known-no_worse program best b seen limit-found.1.known some)
+      not-dearer plan planned = no_worse b.value plan.value (within-best plan planned) (known-no_worse program best b seen limit-found.1.known some)
 
       -- the expansion closed the gap
       pub closed-ends : (plan : Planned) (after : Tree) → IsPlanOf case setting (value_of program b.point) lower plan → plan.gap ≤ wanted → after.nodes ≡ map without_point tree.nodes
@@ -117,8 +122,8 @@ module _ (case : Case) (phase : Phase) (how : Grouping) (classes : List Class) (
           close hidden (not-dearer plan planned)
 
       -- the gap is still wide
-      pub wide-ends : (plan : Planned) → IsPlanOf case setting (value_of program b.point) lower plan → wanted < plan.gap
+      pub wide-ends : (plan : Planned) → IsPlanOf case setting (value_of program b.point) lower plan → IsSteady case setting plan.of → wanted < plan.gap
           → Solved answer.Limit (record { plan = Some plan; lower = Some lower; tree = tree })
-      wide-ends plan planned wide =
+      wide-ends plan planned steady wide =
           wide-solved case phase how classes program prepared small wanted budget first tree plan lower (value_of program b.point) limit-found.0 limit-found.1.bound limit-found.1.no_room
-          limit-found.1.shown limit-found.1.short planned wide (not-dearer plan planned)
+          limit-found.1.shown limit-found.1.short (known-plan program best b plan tree.nodes some (within-best plan planned) limit-found.1.decided) planned steady wide (not-dearer plan planned)

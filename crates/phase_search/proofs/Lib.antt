@@ -1,5 +1,6 @@
 pub mod PointsHidden
 pub mod Trees
+pub mod Known
 pub mod Prepared
 pub mod Answered
 pub mod Converted

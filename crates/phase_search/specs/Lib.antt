@@ -1,3 +1,4 @@
 pub mod Points
 pub mod Phases
+pub mod Causes
 pub mod Solved

@@ -10,9 +10,9 @@ use Rattle.program_rows.specs.declared.phases.Phase.{Phase}
 use Rattle.program_rows.specs.declared.phases.Phase.TheVariants.{Region, Rack}
 use Rattle.ip_model.specs.Points.{IsWholePoint, value_of}
 use Rattle.plan_document.specs.declared.part.Planned.{Planned}
-use Rattle.program_rows.specs.Phases.{phase_allowed, phase_cost}
+use Rattle.program_rows.specs.Phases.{phase_allowed, phase_cost, start_allowed}
 use Rattle.program_rows.specs.Settings.{Setting, setting_of, phase_classes}
-use Rattle.class_expand.specs.Dealing.{IsProgramFor, start_allowed}
+use Rattle.class_expand.specs.Dealing.{IsProgramFor}
 
 -- the chosen reservations of a rack phase are there, each at most once
 abbrev pub HasChosen : Case → Phase → Type 0

@@ -15,11 +15,13 @@ use Rattle.plan_document.specs.declared.part.Part.{Part}
 use Rattle.plan_checker.specs.Accepted.{IsRightPart, gap_of}
 use Rattle.plan_checker.specs.Reasons.{is_closed}
 use Rattle.plan_checker.specs.Shape.{GoesWith, PartInRange}
+use Rattle.phase_search.specs.Causes.{HasCauses}
 use Rattle.phase_search.specs.Points.{shows_points}
 
 -- The part is right and has the members that go with the answer, its numbers are in range, and its tree has at most the budget's nodes. With answer plan the gap
 -- is at most the wanted one, with answer infeasible all leaves are refuted, and with answer limit the budget is spent, and did not suffice for every choice of the
--- counts. Points are shown with answer limit alone. Where there is a first assignment, there is a plan of at most its cost.
+-- counts; what is known of the splits and leaves then, and of the plan, are its causes. Points are shown with answer limit alone. Where there is a first assignment, there
+-- is a plan of at most its cost.
 pub record IsSolved (case : Case) (setting : Setting) (how : Grouping) (allows : Assignment → Bool) (cost : Assignment → ℕ) (wanted budget : ℕ)
     (first : Option Assignment) (outcome : Answer) (part : Part) : Type 0 where
   pub right : IsRightPart case setting how allows cost part
@@ -30,5 +32,6 @@ pub record IsSolved (case : Case) (setting : Setting) (how : Grouping) (allows :
   pub refuted : outcome ≡ answer.Infeasible → list_all is_closed part.tree.nodes ≡ true
   pub spent : outcome ≡ answer.Limit → IfSome part.lower (λ lower. IsSpent case setting how budget wanted (gap_of part.plan) lower part.tree.nodes)
   pub too_few : outcome ≡ answer.Limit → budget + 1 < 2 * choices_of (program_columns case setting (phase_classes case setting how))
+  pub causes : outcome ≡ answer.Limit → HasCauses case setting how part
   pub points : (outcome ≡ answer.Limit → ⊥) → shows_points part.tree.nodes ≡ false
   pub no_worse : IfSome first (λ a. IsSomeAnd part.plan (λ plan. plan.value ≤ cost a))

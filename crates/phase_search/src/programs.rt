@@ -1,10 +1,9 @@
 //! The program of a phase, and its first point.
 ghost use Rattle.std.specs.Prelude.{◌≡◌, IfErr, IfOk, IfSome, IsTrue, OnOk, option_map, true};
-ghost use Rattle.program_rows.specs.Phases.{phase_allowed, phase_cost};
+ghost use Rattle.program_rows.specs.Phases.{phase_allowed, phase_cost, start_allowed};
 ghost use Rattle.program_rows.specs.Settings.{phase_classes as phase_classes_of, racks_count, setting_of, start_fits};
 ghost use Rattle.program_rows.specs.Programs.{program_fits};
 ghost use Rattle.program_rows.specs.Sizes.{IsFault, size_fault_of};
-ghost use Rattle.class_expand.specs.Dealing.{start_allowed};
 ghost use Rattle.phase_search.specs.Phases.{HasChosen, IsFirstPoint, IsPrepared, IsReady};
 
 use class_expand::counts;

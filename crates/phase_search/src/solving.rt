@@ -1,13 +1,12 @@
 //! One phase, solved.
 ghost use Rattle.std.specs.Prelude.{◌≡◌, ◌≤◌, IfErr, IfOk, IfSome, IsTrue, None, Some, option_map};
-ghost use Rattle.program_rows.specs.Phases.{phase_allowed, phase_cost};
+ghost use Rattle.program_rows.specs.Phases.{phase_allowed, phase_cost, start_allowed};
 ghost use Rattle.program_rows.specs.Settings.{phase_classes as phase_classes_of, setting_of};
 ghost use Rattle.program_rows.specs.Sizes.{IsFault, size_fault_of};
-ghost use Rattle.class_expand.specs.Dealing.{start_allowed};
 ghost use Rattle.phase_search.specs.Phases.{HasChosen};
 ghost use Rattle.phase_search.specs.Solved.{IsSolved};
 
-use crate::plans::plan_of;
+use crate::plans::{plan_of, steady_plan_of};
 use crate::points::without_points;
 use crate::programs::{first_point, problem_of};
 use bound_certificate::Tree;
@@ -41,7 +40,8 @@ fn planless(lower: Option<u64>, tree: Tree) -> Part
 
 /// Searches the program of a phase, from a first assignment if there is one, with at most so many nodes and until the gap
 /// is at most the wanted one. The assignment is the expansion of the best point, and its cost the stated value, which may
-/// be below that of the point. Where this closes the gap, the answer is a plan although the search spent its nodes.
+/// be below that of the point. Where the search spent its nodes, the expansion is settled: no change of one server makes it
+/// cheaper. Where this closes the gap, the answer is a plan all the same.
 ///
 /// # Errors
 /// Exactly where the program has too many columns or rows; or for want of memory.
@@ -80,7 +80,7 @@ pub fn solve(
             let Some(best) = best else {
                 return Ok((Answer::Limit, planless(Some(lower), tree)));
             };
-            let plan = plan_of(alloc, case, phase, &problem, &best.point, lower)?;
+            let plan = steady_plan_of(alloc, case, phase, &problem, &best.point, lower)?;
             if plan.gap > gap {
                 return Ok((Answer::Limit, planned(plan, lower, tree)));
             }

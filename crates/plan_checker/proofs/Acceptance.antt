@@ -52,7 +52,7 @@ use Rattle.plan_checker.specs.Shape.{PlanInRange, HasBound, PartInRange, GoesWit
 use Rattle.plan_checker.specs.Headline.{KeepsPromise, RegionPromise, RackPromise, KeepsPromises}
 use Rattle.plan_checker.specs.Reasons.{allowed_reason, tree_reason, budget_reason, point_reason, spent_reason, limit_reason, region_last_reason, rack_last_reason, chosen_difference, first_difference, first_open, first_need, HasSoundTree}
 use Rattle.plan_checker.specs.Laws.{NoReasonIsAccepted}
-use Rattle.plan_checker.specs.Accepted.{IsRightPlan, IsRightPart, IsRightRack, gap_of, GapsWithin, SpentBudget, IsAccepted}
+use Rattle.plan_checker.specs.Accepted.{IsRightPlan, IsRightPart, IsRightRack, gap_of, GapsWithin, GoesWithChosen, SpentBudget, IsAccepted}
 use Rattle.program_rows.specs.Accepted.{IsRightTree, IsSpent}
 use Rattle.bound_certificate.specs.Shown.{Shows, IsShown, AreShown, node_shows, point_shows, lies_in, strictly_between, first_unshown}
 use Rattle.bound_certificate.proofs.ShownPoints.{lies_in-says, lies_in-from}
@@ -264,6 +264,10 @@ module _ (case : Case) (document : Document) (shape : HasShape case document) (r
       (gap_wide phase.Rack document.gap rack.part.lower rack.part.plan its.ranged.part.bound (subst (λ a. gap_reason phase.Rack a true document.gap rack.part.lower rack.part.plan ≡ None) is sound.gap))
       rack.part.lower refl last
 
+rack_with_chosen : (case : Case) (rack : Option RackPart) (right : List ℕ) → IfSome rack (RackInRange case) → option_map_or (λ r. r.chosen) rack [] ≡ right → GoesWithChosen rack right
+rack_with_chosen case None right shape same = sym same
+rack_with_chosen case (Some rack) right shape same = subst (λ (chosen : List ℕ). 0 < length chosen) same shape.some
+
 pub no_reason-accepted : NoReasonIsAccepted
 no_reason-accepted case document shape h =
     let one = or_none (region_reason case document) _ h in
@@ -273,6 +277,7 @@ no_reason-accepted case document shape h =
       region = region_right case document shape.region one.0;
       rack = racks_right case document shape one.0 two.1 document.rack document.region.plan refl refl;
       chosen = chosen_right case document document.answer two.0;
+      rack_there = λ some. rack_with_chosen case document.rack (right_chosen case document) shape.rack (chosen_right case document document.answer two.0 some);
       gaps = λ is. (
         gap_within phase.Region (is_none document.rack) document.gap document.region.lower document.region.plan shape.region.bound
             (subst (λ a. gap_reason phase.Region a (is_none document.rack) document.gap document.region.lower document.region.plan ≡ None) is sound.gap),

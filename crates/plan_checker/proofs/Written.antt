@@ -70,6 +70,7 @@ module _ (case : Case) (servers reservations : List (List ℕ)) (places : length
   rack_in (Some rack) h = record {
     part = part_in form.Planned rack.part h.part;
     has_plan = plan_there rack.part.plan h.part.form.0;
+    some = h.chosen_least;
     chosen = subst (λ n. All (λ r. r < n) rack.chosen) wants h.chosen_there;
   }
 

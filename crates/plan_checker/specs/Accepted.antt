@@ -46,12 +46,19 @@ SpentBudget case document (Some rack) None = ⊤
 SpentBudget case document (Some rack) (Some first) =
     IfSome rack.part.lower (λ lower. IsSpent case (rack_setting case first.of rack.chosen) document.grouping document.nodes document.gap (gap_of rack.part.plan) lower rack.part.tree.nodes)
 
--- Each part is right. The stated list of chosen reservations is the chosen list, unless the answer is that there is no plan. Where the answer is a plan, each
+-- a rack part is there exactly where reservations are chosen
+abbrev pub GoesWithChosen : Option RackPart → List ℕ → Type 0
+GoesWithChosen None chosen = chosen ≡ []
+GoesWithChosen (Some rack) chosen = 0 < length chosen
+
+-- Each part is right. The stated list of chosen reservations is the chosen list, and a rack part is there exactly where it is not empty, unless the answer is that there
+-- is no plan. Where the answer is a plan, each
 -- stated gap is at most the wanted gap; where it is that there is none, all leaves are refuted; where it is a limit, the last part's budget is spent.
 pub record IsAccepted (case : Case) (document : Document) : Type 0 where
   pub region : IsRightPart case (region_setting case) document.grouping (region_allowed case) (region_cost case) document.region
   pub rack : IfSome document.region.plan (λ first. IfSome document.rack (IsRightRack case document.grouping first.of))
   pub chosen : (document.answer ≡ answer.Infeasible → ⊥) → stated_chosen document ≡ right_chosen case document
+  pub rack_there : (document.answer ≡ answer.Infeasible → ⊥) → GoesWithChosen document.rack (right_chosen case document)
   pub gaps : document.answer ≡ answer.Plan → GapsWithin document.gap document
   pub refuted : document.answer ≡ answer.Infeasible → list_all is_closed document.region.tree.nodes ≡ true
   pub spent : document.answer ≡ answer.Limit → SpentBudget case document document.rack document.region.plan

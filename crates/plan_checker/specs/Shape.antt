@@ -41,14 +41,16 @@ GoesWith answer.Limit None (Some lower) None = ⊤
 GoesWith answer.Limit None (Some lower) (Some rack) = ⊥
 GoesWith answer.Limit None None rack = ⊥
 
--- a rack part has a plan and names chosen reservations of the case
+-- there is a plan
 abbrev pub HasPlan : Option Planned → Type 0
 HasPlan None = ⊥
 HasPlan (Some plan) = ⊤
 
+-- a rack part has a plan and names chosen reservations of the case, at least one
 pub record RackInRange (case : Case) (rack : RackPart) : Type 0 where
   pub part : PartInRange case rack.part
   pub has_plan : HasPlan rack.part.plan
+  pub some : 0 < length rack.chosen
   pub chosen : All (λ r. r < length case.wants) rack.chosen
 
 pub record HasShape (case : Case) (document : Document) : Type 0 where

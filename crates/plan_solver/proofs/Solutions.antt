@@ -34,7 +34,7 @@ use Rattle.plan_checker.proofs.Promise.{promises}
 use Rattle.phase_search.specs.Solved.{IsSolved}
 use Rattle.region_phase.specs.FirstPlan.{first_plan_of}
 use Rattle.plan_solver.specs.Racks.{IsRackOf, Follows}
-use Rattle.plan_solver.specs.Solution.{HasFewNodes, IsNoWorse, IsSolution, IsTooFew, ShowsPointsLast, States}
+use Rattle.plan_solver.specs.Solution.{HasFewNodes, HasLastCauses, IsNoWorse, IsSolution, IsTooFew, ShowsPointsLast, States}
 use Rattle.plan_solver.proofs.Parts.{limit_bound, solved_nodes, solved_points, part_writable, members_form, bound_with_plan, plan_after, none_before}
 
 -- ---- the chosen reservations
@@ -95,8 +95,9 @@ no_rack_worse case (Some first) = tt
 -- a document, where it has its shape and is accepted
 assembled : (case : Case) (gap nodes racks : ℕ) (document : Document) → States gap nodes racks document → HasShape case document → IsAccepted case document → HasFewNodes nodes document → ShowsPointsLast document → IsNoWorse case document
     → (document.answer ≡ answers.Limit → document.region.plan ≡ None → first_plan_of case ≡ None) → (document.answer ≡ answers.Limit → IsTooFew case nodes document.region.plan document.rack)
+    → (document.answer ≡ answers.Limit → HasLastCauses case document.region document.region.plan document.rack)
     → ((servers reservations : List (List ℕ)) → length servers ≡ length case.places → length reservations ≡ length case.wants → CanBeWritten servers reservations document) → IsSolution case gap nodes racks document
-assembled case gap nodes racks document stated shape accepted few points no_worse no_first too_few writable =
+assembled case gap nodes racks document stated shape accepted few points no_worse no_first too_few causes writable =
     let no_reason = accepted-no_reason case document shape accepted in
     let kept = promises case document shape no_reason in
     record {
@@ -111,6 +112,7 @@ assembled case gap nodes racks document stated shape accepted few points no_wors
       none = kept.infeasible;
       no_first = no_first;
       too_few = too_few;
+      causes = causes;
       writable = writable;
     }
 
@@ -125,6 +127,7 @@ module _ (case : Case) (gap nodes racks : ℕ) (small : gap ≤ 1000000000000) (
         region = solved.right;
         rack = no_rack_after case part.plan;
         chosen = chosen;
+        rack_there = λ other. sym (chosen other);
         gaps = λ is. (solved.close is, tt);
         refuted = solved.refuted;
         spent = solved.spent;
@@ -137,6 +140,7 @@ module _ (case : Case) (gap nodes racks : ℕ) (small : gap ≤ 1000000000000) (
       (record { region = solved.no_worse; rack = no_rack_worse case part.plan })
       (λ is. none_before (λ a plan. plan.value ≤ region_cost case a) (first_plan_of case) part.plan solved.no_worse)
       solved.too_few
+      solved.causes
       (λ servers reservations all each. record {
         gap_most = small;
         nodes_least = some;
@@ -187,11 +191,12 @@ module _ (case : Case) (gap nodes racks : ℕ) (small : gap ≤ 1000000000000) (
         let right : rack.chosen ≡ chosen_after case racks gap (Some first) = follows.chosen ∙ sym (ap (λ b. cond b (chosen_of case first.of racks) []) (nat_le-from first.gap gap close)) in
         assembled case gap nodes racks _
         (record { gap = refl; nodes = refl; racks = refl; grouping = refl })
-        (record { region = solved.range; rack = record { part = follows.solved.range; has_plan = has_plan; chosen = are.there }; members = members last some_plan })
+        (record { region = solved.range; rack = record { part = follows.solved.range; has_plan = has_plan; some = follows.some; chosen = are.there }; members = members last some_plan })
         (record {
           region = solved.right;
           rack = follows.solved.right;
           chosen = λ other. right;
+          rack_there = λ other. omega (arith, follows.some, ap length right);
           gaps = λ is. (close, follows.solved.close is);
           refuted = λ is. absurd (some_plan is);
           spent = follows.solved.spent;
@@ -204,6 +209,7 @@ module _ (case : Case) (gap nodes racks : ℕ) (small : gap ≤ 1000000000000) (
         (record { region = solved.no_worse; rack = follows.solved.no_worse })
         (λ is none. absurd (cc))
         follows.solved.too_few
+        follows.solved.causes
         (λ servers reservations all each. record {
           gap_most = small;
           nodes_least = some;

@@ -20,7 +20,8 @@ use std::alloc::Global;
 /// are grouped in classes.
 ///
 /// The checker accepts the document, and over any names of the servers and reservations, what is written of it is read again.
-/// It shows points in its last part alone, and only where that part's budget was spent.
+/// It shows points in its last part alone, and only where that part's budget was spent. Then each leaf of its tree that is not
+/// refuted is tight, and is undecided or has a plan within its bound; and no change of one server makes the plan cheaper.
 ///
 /// # Errors
 /// Exactly where the program of the region has too many columns or rows; or for want of memory.

@@ -27,7 +27,7 @@ use Rattle.ras_answers.specs.Check.{AreRead, verdict_answer}
 use Rattle.ras_answers.specs.Inputs.{events_read, invalid_note}
 use Rattle.ras_answers.specs.Move.{IsMoveOn, MoveAnswers, MovesBy, MovesOver, MovesWith, first_of, planned_of, target_of}
 use Rattle.ras_answers.proofs.InputLemmas.{all-read}
-use Rattle.ras_answers.proofs.ShapeLemmas.{both}
+use Rattle.std.proofs.lemmas.Bool.{and_parts}
 
 -- ---- the target of an accepted document is allowed
 
@@ -46,7 +46,7 @@ first-plan answer.Limit None (Some lower) rack h = absurd h
 first-plan answer.Limit None None rack h = absurd h
 
 rack-is-allowed : (case : Case) (first : Assignment) (chosen : List ℕ) (a : Assignment) → rack_allowed case first chosen a ≡ true → region_allowed case a ≡ true
-rack-is-allowed case first chosen a h = (both (region_allowed case a) (list_all (keeps_to_chosen case chosen) (zip (servers_with_places case first) a.of)) h).0
+rack-is-allowed case first chosen a h = (and_parts (region_allowed case a) (list_all (keeps_to_chosen case chosen) (zip (servers_with_places case first) a.of)) h).0
 
 rack-target : (case : Case) (first : Assignment) (chosen : List ℕ) (cost : Assignment → ℕ) (lower : Option ℕ) (plan other : Option Planned)
     → IfSome plan (IsRightPlan (rack_allowed case first chosen) cost lower) → HasPlan plan → IfSome (first_of (planned_of plan) (planned_of other)) (λ target. region_allowed case target ≡ true)

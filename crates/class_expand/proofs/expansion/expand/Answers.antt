@@ -54,3 +54,10 @@ returns-clause-cost c =
     ∙ ap (λ cs. fold (deal c.args.program.now.columns c.args.point.now) c.args.a.now.of (enumerate_from 0 cs)) c.as_slice-3.ensures.items
     ∙ ap (λ of. fold (deal c.args.program.now.columns c.args.point.now) of (enumerate_from 0 classes)) c.requires.begins in
     (all-allowed case phase classes c.args.program.now c.args.point.now c.requires.start c.requires.program c.requires.whole_point c.hand_all_out.new.a final c.requires.grouped).1
+
+pub returns-clause-dealt : goal.returns-clause-dealt
+returns-clause-dealt c =
+    c.hand_all_out.ensures
+    ∙ ap (λ cols. fold (deal cols c.as_slice-2.result.now) c.args.a.now.of (enumerate_from 0 c.as_slice-3.result.now)) c.as_slice.ensures.items
+    ∙ ap (λ ns. fold (deal c.args.program.now.columns ns) c.args.a.now.of (enumerate_from 0 c.as_slice-3.result.now)) c.as_slice-2.ensures.items
+    ∙ ap (λ cs. fold (deal c.args.program.now.columns c.args.point.now) c.args.a.now.of (enumerate_from 0 cs)) c.as_slice-3.ensures.items

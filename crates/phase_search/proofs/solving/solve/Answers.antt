@@ -26,8 +26,8 @@ returns-in_default-clause-solved c =
     (bare-ends c.args.case.now c.args.phase.now c.args.how c.in_ok-problem.problem.classes.list c.in_ok-problem.problem.program c.in_ok-problem.ensures.prepared c.in_ok-problem.ensures.fits c.args.gap c.args.nodes _ _ _ c.in_ok-point.ensures c.as_ref.ensures.value
     c.in_ok-point-2.field-0 c.in_ok-point-2.ensures c.in-Limit.best c.in-Limit.lower c.in-Limit.tree c.in-Limit.is c.in_default.is)
 
-pub plan_of-requires-in-Limit-clause-lower : goal.plan_of-requires-in-Limit-clause-lower
-plan_of-requires-in-Limit-clause-lower c =
+pub steady_plan_of-requires-clause-lower : goal.steady_plan_of-requires-clause-lower
+steady_plan_of-requires-clause-lower c =
     limit-under c.args.case.now c.args.phase.now c.args.how c.in_ok-problem.problem.classes.list c.in_ok-problem.problem.program c.in_ok-problem.ensures.prepared c.in_ok-problem.ensures.fits c.args.gap c.args.nodes _ _ _ c.in_ok-point.ensures c.as_ref.ensures.value
     c.in_ok-point-2.field-0 c.in_ok-point-2.ensures c.in-Limit.best c.in-Limit.lower c.in-Limit.tree c.in-Limit.is
 
@@ -35,11 +35,11 @@ pub returns-then-plan-gap-clause-solved : goal.returns-then-plan-gap-clause-solv
 returns-then-plan-gap-clause-solved c =
     solved-part _ _ _ _ _ _ _ _ _ _ _ c.planned-then-plan-gap.ensures
     (wide-ends c.args.case.now c.args.phase.now c.args.how c.in_ok-problem.problem.classes.list c.in_ok-problem.problem.program c.in_ok-problem.ensures.prepared c.in_ok-problem.ensures.fits c.args.gap c.args.nodes _ _ _ c.in_ok-point.ensures c.as_ref.ensures.value
-    c.in_ok-point-2.field-0 c.in_ok-point-2.ensures c.in-Limit.best c.in-Limit.lower c.in-Limit.tree c.in-Limit.is c.in-Some.best c.in-Some.is c.in_ok-plan-in-Limit.plan c.in_ok-plan-in-Limit.ensures c.if-plan-gap.true)
+    c.in_ok-point-2.field-0 c.in_ok-point-2.ensures c.in-Limit.best c.in-Limit.lower c.in-Limit.tree c.in-Limit.is c.in-Some.best c.in-Some.is c.in_ok-plan-in-Limit.plan c.in_ok-plan-in-Limit.ensures.plan c.in_ok-plan-in-Limit.ensures.steady c.if-plan-gap.true)
 
 pub returns-clause-solved : goal.returns-clause-solved
 returns-clause-solved c =
     solved-part _ _ _ _ _ _ _ _ _ _ _ c.planned-in-Limit.ensures
     (closed-ends c.args.case.now c.args.phase.now c.args.how c.in_ok-problem.problem.classes.list c.in_ok-problem.problem.program c.in_ok-problem.ensures.prepared c.in_ok-problem.ensures.fits c.args.gap c.args.nodes _ _ _ c.in_ok-point.ensures c.as_ref.ensures.value
     c.in_ok-point-2.field-0 c.in_ok-point-2.ensures c.in-Limit.best c.in-Limit.lower c.in-Limit.tree c.in-Limit.is c.in-Some.best c.in-Some.is c.in_ok-plan-in-Limit.plan c.without_points-in-Limit.result
-    c.in_ok-plan-in-Limit.ensures c.if-plan-gap.false c.without_points-in-Limit.ensures)
+    c.in_ok-plan-in-Limit.ensures.plan c.if-plan-gap.false c.without_points-in-Limit.ensures)
