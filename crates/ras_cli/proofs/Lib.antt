@@ -1,3 +1,5 @@
 pub mod PiecesLemmas
+pub mod PutsLemmas
 pub mod ReadLemmas
+pub mod ReadsLemmas
 pub mod RunLemmas

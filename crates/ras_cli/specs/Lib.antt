@@ -1,3 +1,5 @@
 pub mod Asked
+pub mod Puts
 pub mod Runs
 pub mod Named
+pub mod Reads

@@ -3,6 +3,7 @@ ghost use Rattle.std.specs.List.{list_all};
 ghost use Rattle.ras_outside.specs.Causes.{Rose, RoseBy};
 ghost use Rattle.ras_cli.specs.Asked.{BreaksHeld, HasTexts, LongerHeld};
 ghost use Rattle.ras_cli.specs.Named.{has_limit, limited};
+ghost use Rattle.ras_cli.specs.Reads.{ReadsInOrder};
 
 use ras_outside::{Shelf, ShelfFault};
 use std::alloc::Global;
@@ -24,6 +25,7 @@ pub fn read_files<S: Shelf>(
 ) -> Result<Vec<Vec<u8>>, ShelfFault>
     requires { IsTrue (list_all has_limit named.now) }
     ensures held { S.held shelf.new ≡ S.held shelf.old }
+    ensures order { ReadsInOrder S.reads shelf.old (map limited named.now) result shelf.new }
     ensures each { IfOk result (λ files. length files.items ≡ length named.now) }
     ensures small { IfOk result (λ files. All (λ f. length f.items ≤ 64 * 2 ^ 20) files.items) }
     ensures texts { IfOk result (λ files. HasTexts (S.held shelf.old) (map limited named.now) (map (λ f. f.items) files.items)) }

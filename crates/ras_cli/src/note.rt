@@ -1,11 +1,13 @@
 ghost use Rattle.std.specs.Prelude.{◌≡◌};
+ghost use Rattle.ras_cli.specs.Puts.{PutOnce};
 ghost use Rattle.ras_cli.specs.Runs.{Tells, fault_status, fault_text};
 
 use ras_outside::{ShelfFault, Sink};
 
 /// Puts a message in one put. Its fault changes no status.
 pub fn tell<E: Sink>(note: &mut E, message: &str)
-    ensures { Tells (E.faults note.old) (E.faults note.new) (E.written note.old) (E.written note.new) message.now }
+    ensures told { Tells (E.faults note.old) (E.faults note.new) (E.written note.old) (E.written note.new) message.now }
+    ensures once { PutOnce E.puts note.old message.now note.new }
 {
     let _ = note.put(message.as_bytes());
 }
@@ -25,6 +27,7 @@ fn fault_text(fault: ShelfFault) -> &'static str
 pub fn tell_fault<E: Sink>(note: &mut E, fault: ShelfFault) -> u8
     ensures status { result ≡ fault_status fault }
     ensures told { Tells (E.faults note.old) (E.faults note.new) (E.written note.old) (E.written note.new) (fault_text fault) }
+    ensures once { PutOnce E.puts note.old (fault_text fault) note.new }
 {
     tell(note, fault_text(fault));
     match fault {

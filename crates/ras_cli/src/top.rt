@@ -1,10 +1,12 @@
-ghost use Rattle.std.specs.Prelude.{◌≡◌, ◌≢◌, ◌≤◌, ◌⊎◌, [], codes, true, false, None, Some, Err, IfErr, IfOk, IsErrOf};
+ghost use Rattle.std.specs.Prelude.{◌≡◌, ◌≢◌, ◌≤◌, ◌⊎◌, ℕ, List, [], codes, true, false, None, Some, Err, IfErr, IfOk, IsErrOf};
 ghost use Rattle.std.specs.Io.KnownBytes.{Appends};
 ghost use Rattle.ras_outside.specs.Causes.{Rose, RoseBy, AppendsSome};
 ghost use Rattle.ras_words.specs.Rows.{Refused};
 ghost use Rattle.ras_words.specs.Words.{InRanges, command_of};
 ghost use Rattle.ras_answers.specs.Answered.{seen};
 ghost use Rattle.ras_cli.specs.Asked.{BreaksHeld, LongerHeld, asked_of, files_asked, files_of};
+ghost use Rattle.ras_cli.specs.Puts.{AllPut, PutOnce, StopsAt, pieces_of};
+ghost use Rattle.ras_cli.specs.Reads.{AnswersRead, AtRead, EndsAt, SomeRead};
 ghost use Rattle.ras_cli.specs.Runs.{AtAnswer, Tells, is_printed, note_of, status_of, text_of};
 
 use crate::answers::answer_of;
@@ -25,6 +27,11 @@ fn answer_at<S: Shelf>(
     shelf: &mut S,
 ) -> Result<Answer, ShelfFault>
     requires ranges { InRanges command.now }
+    ensures held { S.held shelf.new ≡ S.held shelf.old }
+    ensures order { SomeRead S.reads shelf.old (files_of command.now) shelf.new }
+    ensures stops_failed { IsErrOf result ShelfFault.Failed → EndsAt S.reads shelf.old (files_of command.now) ShelfFault.Failed shelf.new }
+    ensures stops_long { IsErrOf result ShelfFault.Long → EndsAt S.reads shelf.old (files_of command.now) ShelfFault.Long shelf.new }
+    ensures handed { IfOk result (λ a. AnswersRead S.reads shelf.old command.now (seen a) shelf.new) }
     ensures answer { IfOk result (λ a. AtAnswer (S.held shelf.old) (Some command.now) (λ answer. seen a ≡ answer)) }
     ensures failed { IsErrOf result ShelfFault.Failed → Rose (S.faults shelf.old) (S.faults shelf.new) }
     ensures broke { IsErrOf result ShelfFault.Failed → BreaksHeld (S.held shelf.old) (files_of command.now) (S.broke shelf.old) (S.broke shelf.new) }
@@ -53,6 +60,17 @@ fn run_command<S: Shelf, K: Sink, E: Sink>(
     note: &mut E,
 ) -> u8
     requires ranges { InRanges command.now }
+    ensures held { S.held shelf.new ≡ S.held shelf.old }
+    ensures order { SomeRead S.reads shelf.old (files_of command.now) shelf.new }
+    ensures stops_failed { result ≡ 6 → EndsAt S.reads shelf.old (files_of command.now) ShelfFault.Failed shelf.new }
+    ensures stops_long { result ≡ 8 → EndsAt S.reads shelf.old (files_of command.now) ShelfFault.Long shelf.new }
+    ensures handed { is_printed result ≡ true → AtRead S.reads shelf.old (Some command.now) shelf.new
+        (λ a. (status_of a ≡ result) × Appends (K.written out.old) (K.written out.new) (text_of a) × AllPut K.puts out.old (pieces_of 4096 (text_of a)) out.new) }
+    ensures handed_invalid { result ≡ 3 → AtRead S.reads shelf.old (Some command.now) shelf.new
+        (λ a. (status_of a ≡ 3) × Tells (E.faults note.old) (E.faults note.new) (E.written note.old) (E.written note.new) (note_of a) × PutOnce E.puts note.old (note_of a) note.new) }
+    ensures handed_prefix { result ≡ 7 → AtRead S.reads shelf.old (Some command.now) shelf.new
+        (λ a. (is_printed (status_of a) ≡ true) × AppendsSome (K.written out.old) (K.written out.new) (text_of a) × StopsAt K.puts out.old (pieces_of 4096 (text_of a)) out.new) }
+    ensures kept { is_printed result ≡ true → K.faults out.new ≡ K.faults out.old }
     ensures printed { is_printed result ≡ true → AtAnswer (S.held shelf.old) (Some command.now)
         (λ a. (status_of a ≡ result) × Appends (K.written out.old) (K.written out.new) (text_of a)) }
     ensures silent { is_printed result ≡ true → note.new ≡ note.old }
@@ -73,6 +91,10 @@ fn run_command<S: Shelf, K: Sink, E: Sink>(
     ensures told_write { result ≡ 7 → Tells (E.faults note.old) (E.faults note.new) (E.written note.old) (E.written note.new) (codes "ras: write failed\n") }
     ensures told_long { result ≡ 8 → Tells (E.faults note.old) (E.faults note.new) (E.written note.old) (E.written note.new) (codes "ras: file too long\n") }
     ensures told_memory { result ≡ 9 → Tells (E.faults note.old) (E.faults note.new) (E.written note.old) (E.written note.new) (codes "ras: no memory\n") }
+    ensures once_failed { result ≡ 6 → PutOnce E.puts note.old (codes "ras: read failed\n") note.new }
+    ensures once_write { result ≡ 7 → PutOnce E.puts note.old (codes "ras: write failed\n") note.new }
+    ensures once_long { result ≡ 8 → PutOnce E.puts note.old (codes "ras: file too long\n") note.new }
+    ensures once_memory { result ≡ 9 → PutOnce E.puts note.old (codes "ras: no memory\n") note.new }
     ensures known { (is_printed result ≡ true) ⊎ (result ≡ 3) ⊎ (result ≡ 6) ⊎ (result ≡ 7) ⊎ (result ≡ 8) ⊎ (result ≡ 9) }
 {
     match answer_at(alloc, command, shelf) {
@@ -107,6 +129,17 @@ pub fn run<S: Shelf, K: Sink, E: Sink>(
     ensures refuses { asked_of words.now ≡ None → (result ≡ 2) ⊎ (result ≡ 9) }
     ensures told_refused { result ≡ 2 → command_of words.now ≢ Err Refused
         → Tells (E.faults note.old) (E.faults note.new) (E.written note.old) (E.written note.new) (codes "ras: bad words\n") }
+    ensures held { S.held shelf.new ≡ S.held shelf.old }
+    ensures order { SomeRead S.reads shelf.old (files_asked (asked_of words.now)) shelf.new }
+    ensures stops_failed { result ≡ 6 → EndsAt S.reads shelf.old (files_asked (asked_of words.now)) ShelfFault.Failed shelf.new }
+    ensures stops_long { result ≡ 8 → EndsAt S.reads shelf.old (files_asked (asked_of words.now)) ShelfFault.Long shelf.new }
+    ensures handed { is_printed result ≡ true → AtRead S.reads shelf.old (asked_of words.now) shelf.new
+        (λ a. (status_of a ≡ result) × Appends (K.written out.old) (K.written out.new) (text_of a) × AllPut K.puts out.old (pieces_of 4096 (text_of a)) out.new) }
+    ensures handed_invalid { result ≡ 3 → AtRead S.reads shelf.old (asked_of words.now) shelf.new
+        (λ a. (status_of a ≡ 3) × Tells (E.faults note.old) (E.faults note.new) (E.written note.old) (E.written note.new) (note_of a) × PutOnce E.puts note.old (note_of a) note.new) }
+    ensures handed_prefix { result ≡ 7 → AtRead S.reads shelf.old (asked_of words.now) shelf.new
+        (λ a. (is_printed (status_of a) ≡ true) × AppendsSome (K.written out.old) (K.written out.new) (text_of a) × StopsAt K.puts out.old (pieces_of 4096 (text_of a)) out.new) }
+    ensures kept { is_printed result ≡ true → K.faults out.new ≡ K.faults out.old }
     ensures printed { is_printed result ≡ true → AtAnswer (S.held shelf.old) (asked_of words.now)
         (λ a. (status_of a ≡ result) × Appends (K.written out.old) (K.written out.new) (text_of a)) }
     ensures silent { is_printed result ≡ true → note.new ≡ note.old }
@@ -127,6 +160,12 @@ pub fn run<S: Shelf, K: Sink, E: Sink>(
     ensures told_write { result ≡ 7 → Tells (E.faults note.old) (E.faults note.new) (E.written note.old) (E.written note.new) (codes "ras: write failed\n") }
     ensures told_long { result ≡ 8 → Tells (E.faults note.old) (E.faults note.new) (E.written note.old) (E.written note.new) (codes "ras: file too long\n") }
     ensures told_memory { result ≡ 9 → Tells (E.faults note.old) (E.faults note.new) (E.written note.old) (E.written note.new) (codes "ras: no memory\n") }
+    ensures once_refused { result ≡ 2 → (message : List ℕ) × PutOnce E.puts note.old message note.new }
+    ensures once_words { result ≡ 2 → command_of words.now ≢ Err Refused → PutOnce E.puts note.old (codes "ras: bad words\n") note.new }
+    ensures once_failed { result ≡ 6 → PutOnce E.puts note.old (codes "ras: read failed\n") note.new }
+    ensures once_write { result ≡ 7 → PutOnce E.puts note.old (codes "ras: write failed\n") note.new }
+    ensures once_long { result ≡ 8 → PutOnce E.puts note.old (codes "ras: file too long\n") note.new }
+    ensures once_memory { result ≡ 9 → PutOnce E.puts note.old (codes "ras: no memory\n") note.new }
     ensures known { (is_printed result ≡ true) ⊎ (result ≡ 2) ⊎ (result ≡ 3) ⊎ (result ≡ 6) ⊎ (result ≡ 7) ⊎ (result ≡ 8) ⊎ (result ≡ 9) }
 {
     match read_words(alloc, words.as_slice()) {

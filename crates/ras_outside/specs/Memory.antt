@@ -1,11 +1,12 @@
 -- What shelves and sinks in memory tell: their contents, their counts, and what one call makes of them.
-use Rattle.std.specs.Prelude.{ℕ, ◌≡◌, ◌+◌, ◌-◌, ◌^◌, ◌==◌, min, Bool, List, [], ◌∷◌, length, map, Option, None, Some, is_some, Result, Ok, Err, Vec, vec_capacity, vec_len, if◌then◌else◌}
+use Rattle.std.specs.Prelude.{ℕ, ◌≡◌, ◌+◌, ◌^◌, ◌==◌, min, Bool, List, [], ◌∷◌, length, map, Option, None, Some, is_some, Result, Ok, Err, Vec, if◌then◌else◌}
 use Rattle.std.specs.List.{list_any}
 use Rattle.std.specs.declared.alloc.Global.{Global}
 use Rattle.ras_outside.specs.declared.memory.Stop.{Stop}
 use Rattle.ras_outside.specs.declared.memory.File.{File}
 use Rattle.ras_outside.specs.declared.shelf.ShelfFault.{ShelfFault}
 use Rattle.ras_outside.specs.declared.shelf.ShelfFault.TheVariants as fault
+use Rattle.ras_outside.specs.Causes.{raised}
 use Rattle.ras_outside.specs.Held.{Files, file_at}
 
 -- a shelf in memory: its files, the numbers of the reads that fail, and its counts
@@ -25,10 +26,6 @@ pub record Sunk : Type 0 where
   pub puts : ℕ
   pub failed : ℕ
   pub room : ℕ
-
--- a count of 64 bits after so many more, which stays at its end
-abbrev pub raised : ℕ → ℕ → ℕ
-raised more count = min (count + more) (2 ^ 64 - 1)
 
 -- the files as a map
 abbrev pub files_of : List File → Files
@@ -62,7 +59,3 @@ after_read s name most (Err fault.Long) = record s { reads = raised 1 s.reads; t
 abbrev pub stop_of : List Stop → ℕ → Option ℕ
 stop_of [] put = None
 stop_of (s ∷ stops) put = if s.call == put then Some s.taken else stop_of stops put
-
--- the room that is left
-abbrev pub room_of : Vec ℕ Global → ℕ
-room_of bytes = vec_capacity bytes - vec_len bytes

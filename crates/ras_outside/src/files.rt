@@ -1,9 +1,13 @@
-ghost use Rattle.std.specs.Prelude.{◌≡◌, ◌≤◌, ◌+◌, ◌-◌, ◌^◌, min, None};
+ghost use Rattle.std.specs.Prelude.{◌≡◌, ◌≤◌, ◌+◌, ◌*◌, ◌^◌, None, IfOk, OnOk, IsErrOf, length};
+ghost use Rattle.std.specs.Io.KnownBytes.{Consumes, IsAtEnd};
+ghost use Rattle.ras_outside.specs.Causes.{Rose, RisesIfLong, raised};
+ghost use Rattle.ras_outside.specs.Reading.{FileReads, ReadsWhole};
 
+use crate::reading::read_whole;
 use crate::shelf::{Shelf, ShelfFault};
+use crate::source::Source;
 use std::alloc::Global;
 use std::fs;
-use std::io::Read;
 use std::marker::Model;
 use std::rt::Files;
 
@@ -40,7 +44,7 @@ impl<R: Files> FileShelf<R> {
 
     // Counts a read that failed.
     fn fail(&mut self) -> ShelfFault
-        ensures counted { self.new ≡ record self.old { failed = min (self.old.failed + 1) (2 ^ 64 - 1) } }
+        ensures counted { self.new ≡ record self.old { failed = raised 1 self.old.failed } }
         ensures later { self.old.failed ≤ self.new.failed }
         ensures fault { result ≡ ShelfFault.Failed }
     {
@@ -50,12 +54,34 @@ impl<R: Files> FileShelf<R> {
 
     // Counts a read that was too long.
     fn too_long(&mut self) -> ShelfFault
-        ensures counted { self.new ≡ record self.old { over = min (self.old.over + 1) (2 ^ 64 - 1) } }
-        ensures later { self.old.over ≤ self.new.over }
+        ensures counted { self.new ≡ record self.old { over = raised 1 self.old.over } }
         ensures fault { result ≡ ShelfFault.Long }
     {
         self.over = self.over.saturating_add(1);
         ShelfFault::Long
+    }
+
+    // Reads a file that was opened.
+    fn read_file<S: Source>(
+        &mut self,
+        alloc: Global,
+        file: &mut S,
+        most: usize,
+    ) -> Result<Vec<u8>, ShelfFault>
+        requires { most ≤ 64 * 2 ^ 20 }
+        ensures counts { FileReads most self.old result self.new }
+        ensures faults_later { self.old.failed ≤ self.new.failed }
+        ensures taken_later { self.old.taken ≤ self.new.taken }
+        ensures taken_most { self.new.taken ≤ self.old.taken + (most + 1) }
+        ensures bytes { ReadsWhole most (S.left file.old) (S.left file.new) self.old.taken self.new.taken result }
+        ensures fault { IsErrOf result ShelfFault.Failed → (s : S) × S.fails s file.new }
+    {
+        match read_whole(alloc, file, most, &mut self.taken) {
+            Ok(bytes) => Ok(bytes),
+            Err(ShelfFault::Memory) => Err(ShelfFault::Memory),
+            Err(ShelfFault::Failed) => Err(self.fail()),
+            Err(ShelfFault::Long) => Err(self.too_long()),
+        }
     }
 }
 
@@ -70,28 +96,25 @@ impl<R: Files> Shelf for FileShelf<R> {
 
     ghost over = { λ s. s.over };
 
-    fn read(&mut self, alloc: Global, name: &str, most: usize) -> Result<Vec<u8>, ShelfFault> {
-        let Ok(mut file) = fs::open(&self.runtime, name) else {
-            return Err(self.fail());
-        };
-        let mut bytes = Vec::new(alloc);
-        let mut buffer = [0u8; 4096];
-        for turn in 0..most + 1 {
-            let room = (most + 1 - bytes.len()).min(4096);
-            let Ok(count) = file.read(&mut buffer[..room]) else {
-                return Err(self.fail());
-            };
-            if count == 0 {
-                return Ok(bytes);
-            }
-            self.taken = self.taken.saturating_add(count as u64);
-            if bytes.len() + count > most {
-                return Err(self.too_long());
-            }
-            if bytes.extend_from_slice(&buffer[..count]).is_err() {
-                return Err(ShelfFault::Memory);
-            }
+    ghost reads = { λ s name most answer t. FileReads most s answer t };
+
+    fn read(&mut self, alloc: Global, name: &str, most: usize) -> Result<Vec<u8>, ShelfFault>
+        requires { most ≤ 64 * 2 ^ 20 }
+        ensures counts { FileReads most self.old result self.new }
+        ensures faults_kept { OnOk result (self.new.failed ≡ self.old.failed) }
+        ensures faults_later { self.old.failed ≤ self.new.failed }
+        ensures taken_later { self.old.taken ≤ self.new.taken }
+        ensures taken_most { self.new.taken ≤ self.old.taken + (most + 1) }
+        ensures over { RisesIfLong most self.old.over self.new.over self.old.taken self.new.taken result }
+        ensures fits { IfOk result (λ bytes. length bytes.items ≤ most) }
+        ensures failed { IsErrOf result ShelfFault.Failed → Rose self.old.failed self.new.failed }
+
+        // Some file of the runtime had just these bytes left, and was read to its end.
+        ensures whole { IfOk result (λ bytes. (f : R.File) × (g : R.File) × Consumes (R.File.remaining f) (R.File.remaining g) bytes.items × IsAtEnd (R.File.remaining g)) }
+    {
+        match fs::open(&self.runtime, name) {
+            Ok(mut file) => self.read_file(alloc, &mut file, most),
+            Err(_) => Err(self.fail()),
         }
-        unreachable!()
     }
 }

@@ -3,8 +3,10 @@
 
 mod files;
 mod memory;
+mod reading;
 mod shelf;
 mod sink;
+mod source;
 #[cfg(test)]
 mod tests;
 mod writer;

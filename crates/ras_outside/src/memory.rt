@@ -1,8 +1,9 @@
-ghost use Rattle.std.specs.Prelude.{◌≡◌, ◌+◌, ◌-◌, ◌≤◌, ◌*◌, ◌^◌, min, ℕ, None, Some, [], IfOk, OnOk, OnErr, length};
+ghost use Rattle.std.specs.Prelude.{◌≡◌, ◌+◌, ◌-◌, ◌≤◌, ◌*◌, ◌^◌, max, ℕ, None, Some, [], IfOk, OnOk, OnErr, length};
 ghost use Rattle.std.specs.Prelude.{IsErrOf, IsErr, IsOk, take, ◌<◌, ◌++◌, option_map, true, false, is_ok, if◌then◌else◌};
-ghost use Rattle.ras_outside.specs.Causes.{Rose, RisesIfLong, AppendsSome};
+ghost use Rattle.ras_outside.specs.Causes.{Rose, RisesIfLong, AppendsSome, raised};
 ghost use Rattle.ras_outside.specs.Held.{ReadsTold, file_at};
-ghost use Rattle.ras_outside.specs.Memory.{NamesDiffer, after_read, files_of, is_planned, new_shelf, raised, stop_of};
+ghost use Rattle.ras_outside.specs.Memory.{NamesDiffer, after_read, files_of, is_planned, new_shelf, stop_of};
+ghost use Rattle.ras_outside.specs.Puts.{MemoryPuts};
 
 use crate::shelf::{Shelf, ShelfFault};
 use crate::sink::{Sink, SinkFailed};
@@ -101,10 +102,14 @@ impl Shelf for MemoryShelf {
 
     ghost over = { λ s. s.over };
 
+    ghost reads = { λ s name most answer t. t ≡ after_read s name most answer };
+
     fn read(&mut self, alloc: Global, name: &str, most: usize) -> Result<Vec<u8>, ShelfFault>
         requires { most ≤ 64 * 2 ^ 20 }
         ensures after { self.new ≡ after_read self.old name.now most result }
         ensures held { Some self.new.files ≡ Some self.old.files }
+        ensures faults_kept { OnOk result (self.new.failed ≡ self.old.failed) }
+        ensures broke_kept { OnOk result (self.new.broke ≡ self.old.broke) }
         ensures faults_later { self.old.failed ≤ self.new.failed }
         ensures broke_later { self.old.broke ≤ self.new.broke }
         ensures taken_later { self.old.taken ≤ self.new.taken }
@@ -154,17 +159,22 @@ pub struct Stop {
 #[derive(Debug, Drop)]
 pub struct MemorySink {
     bytes: Vec<u8>,
+    room: usize,
     stops: List<Stop>,
     puts: u64,
     failed: u64,
 }
 
 impl Model for MemorySink {
-    ghost use Rattle.ras_outside.specs.Memory.{Sunk, room_of};
+    ghost use Rattle.std.specs.Prelude.{◌+◌, ◌≤◌, vec_capacity, vec_len};
+    ghost use Rattle.ras_outside.specs.Memory.{Sunk};
 
     ghost Value = { Sunk };
 
-    ghost view = { λ s. record { written = s.bytes.items; stops = s.stops; puts = s.puts; failed = s.failed; room = room_of s.bytes } };
+    ghost view = { λ s. record { written = s.bytes.items; stops = s.stops; puts = s.puts; failed = s.failed; room = s.room } };
+
+    // What is written next into the room finds memory.
+    ghost invariant = { λ s. vec_len s.bytes + s.room ≤ vec_capacity s.bytes };
 }
 
 // Where the put with this number stops, if it does.
@@ -187,9 +197,11 @@ impl MemorySink {
         ensures stops { IfOk result (λ sink. sink.stops ≡ failing) }
         ensures puts { IfOk result (λ sink. sink.puts ≡ 0) }
         ensures faults { IfOk result (λ sink. sink.failed ≡ 0) }
+        ensures room { IfOk result (λ sink. sink.room ≡ 0) }
     {
         Ok(MemorySink {
             bytes: Vec::new(alloc),
+            room: 0,
             stops: failing,
             puts: 0,
             failed: 0,
@@ -200,9 +212,22 @@ impl MemorySink {
     pub fn room(&mut self, bytes: u32) -> Result<(), AllocError>
         requires { bytes ≤ 64 * 2 ^ 20 }
         ensures room { OnOk result (bytes ≤ self.new.room) }
+        ensures made { OnOk result (self.new.room ≡ max self.old.room bytes) }
+        ensures before { OnErr result (self.new ≡ self.old) }
         ensures others { self.new ≡ record self.old { room = self.new.room } }
     {
-        self.bytes.reserve(bytes as usize)
+        self.bytes.reserve(bytes as usize)?;
+        self.room = self.room.max(bytes as usize);
+        Ok(())
+    }
+
+    // Takes bytes for which there is room.
+    fn append(&mut self, bytes: &[u8])
+        requires { length bytes.now ≤ self.old.room }
+        ensures { self.new ≡ record self.old { written = self.old.written ++ bytes.now; room = self.old.room - length bytes.now } }
+    {
+        self.bytes.extend_from_slice(bytes).unwrap();
+        self.room -= bytes.len();
     }
 
     /// What was written.
@@ -220,8 +245,12 @@ impl Sink for MemorySink {
 
     ghost faults = { λ s. s.failed };
 
+    ghost puts = { MemoryPuts };
+
     fn put(&mut self, piece: &[u8]) -> Result<(), SinkFailed>
+        ensures after { MemoryPuts self.old piece.now result self.new }
         ensures later { self.old.failed ≤ self.new.failed }
+        ensures kept { OnOk result (self.new.failed ≡ self.old.failed) }
         ensures ok { OnOk result (self.new.written ≡ self.old.written ++ piece.now) }
         ensures cause { OnErr result (Rose self.old.failed self.new.failed) }
         ensures some { OnErr result (AppendsSome (Some self.old.written) (Some self.new.written) piece.now) }
@@ -236,21 +265,21 @@ impl Sink for MemorySink {
         ensures whole { length piece.now ≤ self.old.room → stop_of self.old.stops self.new.puts ≡ None → IsOk result }
         ensures stopped { length piece.now ≤ self.old.room → (n : ℕ) → stop_of self.old.stops self.new.puts ≡ Some n
             → IsErr result × (self.new.written ≡ self.old.written ++ take n piece.now) }
-        ensures room { self.old.room ≤ self.new.room + length piece.now }
+        ensures room { self.old.room + length self.old.written ≡ self.new.room + length self.new.written }
     {
         self.puts = self.puts.saturating_add(1);
-        if piece.len() > self.bytes.capacity() - self.bytes.len() {
+        if piece.len() > self.room {
             self.failed = self.failed.saturating_add(1);
             return Err(SinkFailed);
         }
         let count = match stop_of(self.stops.as_slice(), self.puts) {
             Some(taken) => (taken as usize).min(piece.len()),
             None => {
-                self.bytes.extend_from_slice(piece).unwrap();
+                self.append(piece);
                 return Ok(());
             }
         };
-        self.bytes.extend_from_slice(&piece[..count]).unwrap();
+        self.append(&piece[..count]);
         self.failed = self.failed.saturating_add(1);
         Err(SinkFailed)
     }

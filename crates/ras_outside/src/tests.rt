@@ -1,10 +1,12 @@
 ghost use Rattle.std.specs.Prelude.{◌≡◌, ◌<◌, ◌∷◌, ◌++◌, [], IfOk, length};
 
+use crate::reading::read_whole;
 use crate::{File, FileShelf, MemoryShelf, MemorySink, Shelf, ShelfFault, Sink, Stop, WriteSink};
 use ras_table::{List, Name, NameFault};
 use std::alloc::{AllocError, Global};
-use std::fs;
+use std::io::{Error, ErrorKind, Read, Write};
 use std::test::Fail;
+use std::{fs, io};
 
 // Whether a read gave these bytes.
 fn gave(answer: &Result<Vec<u8>, ShelfFault>, bytes: &[u8]) -> bool {
@@ -49,6 +51,124 @@ fn real_writer(rt: HostRuntime) -> Result<(), Fail> {
     assert!(rt; one.is_ok() && two.is_ok());
     assert!(rt; gave(&found, b"one two"));
     Ok(())
+}
+
+// The bytes 0, 1, 2 and so on, again from 0 after 250.
+fn counted(alloc: Global, len: u32) -> Result<Vec<u8>, AllocError> {
+    let mut bytes = Vec::new(alloc);
+    for i in 0..len {
+        bytes.push((i % 251) as u8)?;
+    }
+    Ok(bytes)
+}
+
+#[test]
+fn long_file(rt: HostRuntime) -> Result<(), Fail> {
+    let name = "/tmp/ras_outside_long_file.txt";
+    let bytes = counted(rt.alloc(), 10_000)?;
+    fs::write(&rt, name, bytes.as_slice())?;
+    let mut shelf = FileShelf::new(&rt);
+    let whole = shelf.read(rt.alloc(), name, 10_000);
+    let long = shelf.read(rt.alloc(), name, 9_999);
+    fs::remove_file(&rt, name)?;
+    assert!(rt; gave(&whole, bytes.as_slice()));
+    assert!(rt; failed(&long, ShelfFault::Long));
+    Ok(())
+}
+
+#[test]
+fn empty_file_and_folder(rt: HostRuntime) -> Result<(), Fail> {
+    let name = "/tmp/ras_outside_empty_file.txt";
+    fs::write(&rt, name, "")?;
+    let mut shelf = FileShelf::new(&rt);
+    let empty = shelf.read(rt.alloc(), name, 0);
+    fs::remove_file(&rt, name)?;
+    let folder = shelf.read(rt.alloc(), "/tmp", 10);
+    assert!(rt; gave(&empty, b""));
+    assert!(rt; failed(&folder, ShelfFault::Failed));
+    Ok(())
+}
+
+// A reader that gives one byte a call, so many in all, and then fails.
+#[derive(Drop)]
+struct Slow {
+    left: u32,
+}
+
+impl Read for Slow {
+    fn read(&mut self, buf: &mut [u8]) -> io::Result<usize> {
+        if self.left == 0 {
+            return Err(Error::from(ErrorKind::Other));
+        }
+        if buf.is_empty() {
+            return Ok(0);
+        }
+        self.left -= 1;
+        buf[0] = b'x';
+        Ok(1)
+    }
+}
+
+#[test]
+fn slow_reader(rt: HostRuntime) {
+    let mut taken = 0;
+    let broken = read_whole(rt.alloc(), &mut Slow { left: 5_000 }, 5_000, &mut taken);
+    assert!(rt; failed(&broken, ShelfFault::Failed));
+    assert_eq!(rt; taken, 5_000);
+    let long = read_whole(rt.alloc(), &mut Slow { left: 5_000 }, 4_999, &mut taken);
+    assert!(rt; failed(&long, ShelfFault::Long));
+    assert_eq!(rt; taken, 10_000);
+}
+
+#[test]
+fn reader_in_memory(rt: HostRuntime) -> Result<(), Fail> {
+    let bytes = counted(rt.alloc(), 10_000)?;
+    let mut rest = bytes.as_slice();
+    let mut taken = 0;
+    let whole = read_whole(rt.alloc(), &mut rest, 10_000, &mut taken);
+    assert!(rt; gave(&whole, bytes.as_slice()));
+    assert_eq!(rt; taken, 10_000);
+    Ok(())
+}
+
+// A writer that takes three bytes a call, but none in its fourth call, and that fails in its fifth.
+#[derive(Drop)]
+struct Small {
+    got: Vec<u8>,
+    calls: u32,
+}
+
+impl Write for Small {
+    fn write(&mut self, buf: &[u8]) -> io::Result<usize> {
+        self.calls = self.calls.saturating_add(1);
+        match self.calls {
+            4 => Ok(0),
+            5 => Err(Error::from(ErrorKind::Other)),
+            _ => {
+                let count = buf.len().min(3);
+                self.got.extend_from_slice(&buf[..count])?;
+                Ok(count)
+            }
+        }
+    }
+
+    fn flush(&mut self) -> io::Result<()> {
+        Ok(())
+    }
+}
+
+#[test]
+fn small_writer(rt: HostRuntime) {
+    let mut small = Small {
+        got: Vec::new(rt.alloc()),
+        calls: 0,
+    };
+    let mut sink = WriteSink::new(&mut small);
+    assert!(rt; sink.put(b"abcdefg").is_ok());
+    assert!(rt; sink.put(b"hi").is_err());
+    assert!(rt; sink.put(b"hi").is_err());
+    assert!(rt; sink.put(b"jklm").is_ok());
+    assert!(rt; small.got.as_slice() == b"abcdefgjklm".as_slice());
 }
 
 // A list of one item.

@@ -1,6 +1,17 @@
 use Rattle.std.proofs.Common.{◌≤◌, ◌+◌, ◌*◌, ◌^◌, ◌∙◌, ◌∷◌, [], ap, length, length-append, arith}
 use Rattle.ras_cli.proofs.ReadLemmas.{all-more, if-failed, if-long, push-ok, texts-so-far, within-most}
+use Rattle.ras_cli.proofs.ReadsLemmas.{all-more-read, stops-read, last-unkept}
 use Rattle.ras_cli.proofs.files.read_files.Goals as goal
+
+pub returns-in-Err-clause-order : goal.returns-in-Err-clause-order
+returns-in-Err-clause-order g c =
+    stops-read g.S.Shelf.reads c.args.named.now c.loop-file.file-index _ c.args.shelf.now c.loop-file.shelf c.read.new.self c.loop-file.files.items c.in-Err.fault
+    c.loop-file-test.true c.loop-file.invariant.order c.in-Err.ensures.reads
+
+pub returns-then-is_err-clause-order : goal.returns-then-is_err-clause-order
+returns-then-is_err-clause-order g c =
+    last-unkept g.S.Shelf.reads c.args.named.now c.loop-file.file-index _ c.args.shelf.now c.loop-file.shelf c.read.new.self c.loop-file.files.items c.in-Ok.bytes
+    c.loop-file-test.true c.loop-file.invariant.order c.in-Ok.ensures.reads
 
 pub returns-in-Err-clause-broke : goal.returns-in-Err-clause-broke
 returns-in-Err-clause-broke g c =
@@ -30,5 +41,7 @@ loop-file-preserved g c =
       texts = texts-so-far (g.S.Shelf.held c.args.shelf.now) (g.S.Shelf.held c.loop-file.shelf) c.args.named.now c.loop-file.file-index _ c.loop-file.files.items c.push.new.self.items
           (g.S.Shelf.broke c.loop-file.shelf) (g.S.Shelf.broke c.read.new.self) c.in-Ok.bytes c.loop-file-test.true pushed c.loop-file.invariant.held c.loop-file.invariant.texts
           c.in-Ok.ensures.told c.in-Ok.ensures.fits;
+      order = all-more-read g.S.Shelf.reads c.args.named.now c.loop-file.file-index _ c.args.shelf.now c.loop-file.shelf c.read.new.self c.loop-file.files.items c.push.new.self.items c.in-Ok.bytes
+          c.loop-file-test.true pushed c.loop-file.invariant.order c.in-Ok.ensures.reads;
       unread = λ e. absurd (omega arith);
     }
