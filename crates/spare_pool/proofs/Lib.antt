@@ -1,0 +1,10 @@
+pub mod FailureFileFacts
+pub mod FailuresWithin
+pub mod Rules
+pub mod SumFacts
+pub mod FirstFacts
+pub mod ChoiceFacts
+pub mod StartFacts
+pub mod StepFacts
+pub mod RunFacts
+pub mod StepsThere

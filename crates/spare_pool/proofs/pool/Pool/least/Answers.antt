@@ -1,0 +1,16 @@
+use Rattle.std.proofs.Common.{◌≤◌, sym, subst, arith}
+use Rattle.spare_pool.specs.States.{State}
+use Rattle.spare_pool.specs.Spares.{IsLeastAmong, FindsLeast}
+use Rattle.spare_pool.proofs.ChoiceFacts.{least-start, least-end}
+use Rattle.spare_pool.proofs.pool.Pool.least.Goals as goal
+
+pub loop-kind-init : goal.loop-kind-init
+loop-kind-init c = least-start c.args.self.now c.args.r c.args.least
+
+pub returns : goal.returns
+returns c =
+    let at : State = record { case = c.self.inside.case; servers = c.self.inside.servers } in
+    let all : at.case.kinds ≤ c.loop-kind.kind = omega arith in
+    subst (λ (t : State). FindsLeast t c.args.r c.args.least c.loop-kind.best) c.self.view_is
+    (least-end at c.args.r c.args.least c.loop-kind.kind c.loop-kind.best c.self.invariant.0 all
+    (subst (λ (t : State). IsLeastAmong t c.args.r c.args.least c.loop-kind.kind c.loop-kind.best) (sym c.self.view_is) c.loop-kind.invariant))

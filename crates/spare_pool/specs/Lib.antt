@@ -1,0 +1,9 @@
+pub mod States
+pub mod Spares
+pub mod Choices
+pub mod Steps
+pub mod Sums
+pub mod Firsts
+pub mod FailureRows
+pub mod FailureFiles
+pub mod StepLaws
