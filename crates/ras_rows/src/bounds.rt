@@ -24,6 +24,12 @@ fn programs_of_the_largest_size(rt: HostRuntime) -> Result<(), Fail> {
         ),
         (1024, "single", "1|no size region\n|"),
         (1024, "class", "0|yes plan\nregion value 0 lower 0 gap 0\n|"),
+        (
+            20_000,
+            "class",
+            "0|yes plan\nregion value 0 lower 0 gap 0\n|",
+        ),
+        (20_001, "class", "3||ras: inventory: line 20002: many\n"),
     ];
     let requests = one_request(rt.alloc(), 1, 0, 1, "")?;
     let part = r#"{"assignment":{},"gap":0,"lower":0,"tree":[["bound",1,[]]],"value":0}"#;
@@ -86,17 +92,27 @@ fn a_chain_of_splits(rt: HostRuntime) -> Result<(), Fail> {
     Ok(())
 }
 
-// So many blanks.
-fn blanks(alloc: Global, count: usize) -> Result<String, AllocError> {
-    " ".repeat(alloc, count)
+// A text with blanks behind it, so that it has so many bytes, where it has no more.
+fn padded(alloc: Global, text: &str, bytes: usize) -> Result<String, AllocError> {
+    let blanks = " ".repeat(alloc, bytes.saturating_sub(text.len()))?;
+    format!(in alloc; "{text}{blanks}")
 }
 
 #[test]
 fn files_of_the_largest_size(rt: HostRuntime) -> Result<(), Fail> {
-    let sizes = [(16 * 1024 * 1024 + 1, 2, "8||ras: file too long\n")];
-    for (requests, plan, want) in sizes {
-        let requests = blanks(rt.alloc(), requests)?;
-        let plan = blanks(rt.alloc(), plan)?;
+    let mebibyte = 1024 * 1024;
+    let long = "8||ras: file too long\n";
+    let cases = [
+        (16 * mebibyte, 64 * mebibyte, "0|yes infeasible\n|"),
+        (16 * mebibyte + 1, 0, long),
+        (0, 64 * mebibyte + 1, long),
+    ];
+    let requests = one_request(rt.alloc(), 1, 41, 10, "")?;
+    let tree = r#"{"tree":[["refute",1,[7,1]]]}"#;
+    let plan = document(rt.alloc(), "infeasible", "class", 0, 100, tree)?;
+    for (most, most_of_plan, want) in cases {
+        let requests = padded(rt.alloc(), requests.as_str(), most)?;
+        let plan = padded(rt.alloc(), plan.as_str(), most_of_plan)?;
         let texts = Texts {
             inventory: SIX,
             requests: requests.as_str(),
@@ -104,7 +120,7 @@ fn files_of_the_largest_size(rt: HostRuntime) -> Result<(), Fail> {
             plan: plan.as_str(),
         };
         let found = told(rt.alloc(), texts)?;
-        assert!(rt; found.as_str() == want, "{}: {found}", plan.len());
+        assert!(rt; found.as_str() == want, "{most} {most_of_plan}: {found}");
     }
     Ok(())
 }

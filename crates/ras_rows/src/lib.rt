@@ -18,6 +18,10 @@ mod hostile;
 #[cfg(test)]
 mod limits;
 #[cfg(test)]
+mod notes;
+#[cfg(test)]
+mod rack_parts;
+#[cfg(test)]
 mod racks;
 #[cfg(test)]
 mod readers;
@@ -28,4 +32,10 @@ mod runs;
 #[cfg(test)]
 mod samples;
 #[cfg(test)]
+mod settled;
+#[cfg(test)]
 mod solving;
+#[cfg(test)]
+mod stops;
+#[cfg(test)]
+mod types;

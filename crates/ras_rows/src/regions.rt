@@ -1,5 +1,5 @@
 //! Regions that are made by loops.
-use crate::documents::{UNBOUND, requests};
+use crate::documents::{SIX, UNBOUND, requests};
 use crate::runs::{Failing, Texts, ran, solve};
 use crate::solving::SOLVE;
 use std::alloc::{AllocError, Global};
@@ -110,21 +110,48 @@ fn idle_reservations(alloc: Global, count: u32) -> Result<String, AllocError> {
     Ok(text)
 }
 
+// 64 switchboards with a server each take 64 columns for each reservation and 64 more, 128 rows, and 65 for each reservation.
 #[test]
-fn too_many_columns(rt: HostRuntime) -> Result<(), Fail> {
+fn too_many_columns_or_rows(rt: HostRuntime) -> Result<(), Fail> {
+    let cases = [
+        (33, "3|ras: program: columns 2176\n|"),
+        (31, "3|ras: program: rows 2143\n|"),
+    ];
     let inventory = inventory(rt.alloc(), 64, 64)?;
-    let reservations = idle_reservations(rt.alloc(), 33)?;
-    let requests = requests(rt.alloc(), 1, reservations.as_str())?;
-    let texts = Texts {
-        inventory: inventory.as_str(),
-        requests: requests.as_str(),
-        bindings: UNBOUND,
-        plan: "",
-    };
-    let found = solve(rt.alloc(), SOLVE.as_slice(), texts)?;
-    let want = "3|ras: program: columns 2176\n|";
-    assert!(rt; found.told.starts_with(want), "{}", found.told);
-    assert!(rt; found.document.is_empty());
+    for (count, want) in cases {
+        let reservations = idle_reservations(rt.alloc(), count)?;
+        let requests = requests(rt.alloc(), 1, reservations.as_str())?;
+        let texts = Texts {
+            inventory: inventory.as_str(),
+            requests: requests.as_str(),
+            bindings: UNBOUND,
+            plan: "",
+        };
+        let found = solve(rt.alloc(), SOLVE.as_slice(), texts)?;
+        assert!(rt; found.told.starts_with(want), "{count}: {}", found.told);
+        assert!(rt; found.document.is_empty());
+    }
+    Ok(())
+}
+
+#[test]
+fn as_many_reservations_as_may_be(rt: HostRuntime) -> Result<(), Fail> {
+    let cases = [
+        (64, "0||0|yes plan\nregion value 0 lower 0 gap 0\n|"),
+        (65, "3|ras: requests: place 0: many\n|"),
+    ];
+    for (count, want) in cases {
+        let reservations = idle_reservations(rt.alloc(), count)?;
+        let requests = requests(rt.alloc(), 1, reservations.as_str())?;
+        let texts = Texts {
+            inventory: SIX,
+            requests: requests.as_str(),
+            bindings: UNBOUND,
+            plan: "",
+        };
+        let found = solve(rt.alloc(), SOLVE.as_slice(), texts)?;
+        assert!(rt; found.told.starts_with(want), "{count}: {}", found.told);
+    }
     Ok(())
 }
 
