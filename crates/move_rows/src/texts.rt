@@ -3,7 +3,7 @@ use memory_runs::{
     FOUR, SOLVE, THREE_AND_ONE, TWO, Texts, UNBOUND, document, requests, solve, told_move,
     unbounded,
 };
-use std::alloc::Global;
+use std::alloc::{AllocError, Global};
 use std::test::Fail;
 
 // A region, what is asked for of it, and who holds its servers.
@@ -205,5 +205,109 @@ fn more_at_once_than_may_be(rt: HostRuntime) -> Result<(), Fail> {
         let found = moved(rt.alloc(), region, "", "", &["--at-once", at_once])?;
         assert!(rt; found.as_str().starts_with("2||"), "{found}");
     }
+    Ok(())
+}
+
+// Two servers, both to be taken by `a`, of which the first is held by nobody, or by who is gone.
+fn two_servers(bindings: &str) -> Region<'_> {
+    Region {
+        inventory: TWO,
+        take: 2,
+        reservations: r#"{"name":"a","need":1,"values":{"t":1}}"#,
+        bindings,
+    }
+}
+
+#[test]
+fn causes_at_the_end(rt: HostRuntime) -> Result<(), Fail> {
+    let cases = [
+        ("", "8", "0|end,ready,s1,\nend,ready,s2,\nend,total,0,0\n|"),
+        (
+            "0,down,s1\n",
+            "8",
+            "0|0,bind,s2,a\nend,down,s1,\nend,total,1,0\n|",
+        ),
+        (
+            "0,tick,\n1,join-failed,s1\n",
+            "8",
+            "0|0,bind,s1,a\n0,bind,s2,a\nend,waiting,s1,\nend,total,2,0\n|",
+        ),
+        (
+            "0,tick,\n",
+            "1",
+            "0|0,bind,s1,a\nend,full,s2,\nend,total,1,0\n|",
+        ),
+    ];
+    let plan = planned(rt.alloc(), r#""s1":"a","s2":"a""#, 4)?;
+    for (lines, at_once, want) in cases {
+        let found = moved(
+            rt.alloc(),
+            two_servers(UNBOUND),
+            plan.as_str(),
+            lines,
+            &["--at-once", at_once],
+        )?;
+        assert!(rt; found.as_str() == want, "{found}");
+    }
+    Ok(())
+}
+
+#[test]
+fn each_event_taken_and_stale(rt: HostRuntime) -> Result<(), Fail> {
+    let region = two_servers("server,reservation,busy,up\ns1,old,0,1\n");
+    let lines = concat!(
+        "0,tick,\n1,refused,s1\n2,up,s1\n3,join-failed,s2\n4,tick,\n5,refused,s2\n6,join-failed,s1\n",
+        "7,down,s1\n8,down,s1\n9,drained,s1\n10,drained,s1\n11,joined,s1\n12,up,s1\n13,joined,s1\n",
+    );
+    let want = concat!(
+        "0|0,drain,s1,\n0,bind,s2,a\n2,stale,s1,up\n4,drain,s1,\n4,bind,s2,a\n",
+        "5,stale,s2,refused\n6,stale,s1,join-failed\n8,stale,s1,down\n",
+        "10,stale,s1,drained\n11,stale,s1,joined\n12,bind,s1,a\nend,total,5,6\n|",
+    );
+    let plan = planned(rt.alloc(), r#""s1":"a","s2":"a""#, 4)?;
+    let found = moved(rt.alloc(), region, plan.as_str(), lines, &[])?;
+    assert!(rt; found.as_str() == want, "{found}");
+    Ok(())
+}
+
+// So many ticks, one at each time.
+fn ticks(alloc: Global, count: u32) -> Result<String, AllocError> {
+    let mut text = String::new(alloc);
+    for at in 0..count {
+        let line = format!(in alloc; "{at},tick,\n")?;
+        text.push_str(line.as_str())?;
+    }
+    Ok(text)
+}
+
+#[test]
+fn as_many_events_as_may_be(rt: HostRuntime) -> Result<(), Fail> {
+    let cases = [
+        (100_000, "0|0,bind,s1,a\n0,bind,s2,a\nend,total,2,0\n|"),
+        (100_001, "3||ras: events: line 100002: many\n"),
+    ];
+    let plan = planned(rt.alloc(), r#""s1":"a","s2":"a""#, 4)?;
+    for (count, want) in cases {
+        let lines = ticks(rt.alloc(), count)?;
+        let region = two_servers(UNBOUND);
+        let found = moved(rt.alloc(), region, plan.as_str(), lines.as_str(), &[])?;
+        assert!(rt; found.as_str() == want, "{count}: {found}");
+    }
+    Ok(())
+}
+
+#[test]
+fn events_without_a_head(rt: HostRuntime) -> Result<(), Fail> {
+    let texts = Texts {
+        inventory: TWO,
+        requests: r#"{"format":1,"moves":{"take":1,"idle":5,"busy":50},"reservations":[]}"#,
+        bindings: UNBOUND,
+        plan: "{}",
+    };
+    let found = told_move(rt.alloc(), texts, "0,tick,\n", &[])?;
+    assert!(rt;
+        found.as_str() == "3||ras: events: line 1: head\n",
+        "{found}"
+    );
     Ok(())
 }

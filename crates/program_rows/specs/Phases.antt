@@ -7,6 +7,8 @@ use Rattle.plan_model.specs.Units.{servers_with_places}
 use Rattle.plan_model.specs.Allowed.{serves, fits, keeps_need, region_allowed}
 use Rattle.plan_model.specs.Costs.{region_cost, rack_excess}
 use Rattle.plan_model.specs.Rack.{keeps_to_chosen}
+use Rattle.program_rows.specs.declared.phases.Phase.{Phase}
+use Rattle.program_rows.specs.declared.phases.Phase.TheVariants.{Region, Rack}
 use Rattle.program_rows.specs.Settings.{Setting}
 
 abbrev pub is_active : Setting → ℕ → Bool
@@ -33,3 +35,8 @@ phase_allowed case setting a = region_allowed case a && list_all (keeps_to_chose
 -- the region cost, and where racks count the rack excess of each active reservation
 abbrev pub phase_cost : Case → Setting → Assignment → ℕ
 phase_cost case setting a = region_cost case a + (if setting.racks then sum_by (rack_excess case a) setting.active else 0)
+
+-- in the rack phase, the region's assignment is allowed
+abbrev pub start_allowed : Case → Phase → Bool
+start_allowed case Region = true
+start_allowed case (Rack from chosen) = region_allowed case from.now
