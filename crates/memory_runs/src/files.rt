@@ -22,15 +22,15 @@ pub struct Texts<'a> {
 }
 
 /// Whether each file has fewer than 2^32 bytes.
-pub fn are_short(texts: &Texts<'_>, events: &str) -> bool
-    ensures { result ≡ are_short texts.now events.now }
+pub fn are_short(texts: &Texts<'_>, last: &str) -> bool
+    ensures { result ≡ are_short texts.now last.now }
 {
     let most = 1 << 32;
     texts.inventory.len() < most
         && texts.requests.len() < most
         && texts.bindings.len() < most
         && texts.plan.len() < most
-        && events.len() < most
+        && last.len() < most
 }
 
 // A file of this name that holds this text.
@@ -49,32 +49,32 @@ fn file(alloc: Global, name: &str, text: &str) -> Result<File, AllocError>
     Ok(File { name, bytes })
 }
 
-// The files of these texts, and `events`.
-fn files(alloc: Global, texts: &Texts<'_>, events: &str) -> Result<List<File>, AllocError>
-    requires { are_short texts.now events.now ≡ true }
-    ensures files { IfOk result (λ files. files_of files ≡ files_in texts.now events.now) }
+// The files of these texts, and `last`.
+fn files(alloc: Global, texts: &Texts<'_>, last: &str) -> Result<List<File>, AllocError>
+    requires { are_short texts.now last.now ≡ true }
+    ensures files { IfOk result (λ files. files_of files ≡ files_in texts.now last.now) }
     ensures names { IfOk result NamesDiffer }
 {
     let inventory = file(alloc, "inventory", texts.inventory)?;
     let requests = file(alloc, "requests", texts.requests)?;
     let bindings = file(alloc, "bindings", texts.bindings)?;
     let plan = file(alloc, "plan", texts.plan)?;
-    let events = file(alloc, "events", events)?;
-    Ok(List::from_vec(vec![in alloc; inventory, requests, bindings, plan, events]?))
+    let last = file(alloc, "last", last)?;
+    Ok(List::from_vec(vec![in alloc; inventory, requests, bindings, plan, last]?))
 }
 
-/// A shelf of the four files and `events`, of which the read with this number fails: 0 for none.
+/// A shelf of the four files and `last`, of which the read with this number fails: 0 for none.
 pub fn shelf(
     alloc: Global,
     texts: &Texts<'_>,
-    events: &str,
+    last: &str,
     failing: u32,
 ) -> Result<MemoryShelf, AllocError>
-    requires { are_short texts.now events.now ≡ true }
-    ensures files { IfOk result (λ shelf. shelf.files ≡ files_in texts.now events.now) }
+    requires { are_short texts.now last.now ≡ true }
+    ensures files { IfOk result (λ shelf. shelf.files ≡ files_in texts.now last.now) }
     ensures failing { IfOk result (λ shelf. shelf.failing ≡ failing ∷ []) }
 {
-    let files = files(alloc, texts, events)?;
+    let files = files(alloc, texts, last)?;
     let reads = List::from_vec(vec![in alloc; failing]?);
     MemoryShelf::new(alloc, files, reads)
 }

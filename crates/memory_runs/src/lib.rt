@@ -13,5 +13,7 @@ pub use documents::{document, one_request, requests, unbounded};
 pub use fault::RunFault;
 pub use files::Texts;
 pub use inventories::{FOUR, SIX, THREE, THREE_AND_ONE, TWO, UNBOUND};
-pub use runs::{CHECK, Failing, MOVE, NOTHING, Outcome, ran, told, told_by, told_move};
+pub use runs::{
+    CHECK, Failing, MOVE, NOTHING, Outcome, SPARE, ran, told, told_by, told_move, told_spare,
+};
 pub use solves::{SOLVE, Solved, solve};

@@ -1,6 +1,6 @@
 //! One run over files in memory, told as one text.
 ghost use Rattle.std.specs.Prelude.{◌≡◌, ◌&&◌, ◌++◌, [], IfOk, OnOk, string_bytes};
-ghost use Rattle.memory_runs.specs.Files.{are_short, check_words, files_in, is_line, move_words, words_in};
+ghost use Rattle.memory_runs.specs.Files.{are_short, check_words, files_in, is_line, move_words, spare_words, words_in};
 ghost use Rattle.memory_runs.specs.Runs.{IsRun, IsTold, RunsTo, ended, told_text};
 
 use crate::fault::RunFault;
@@ -14,7 +14,7 @@ use std::alloc::{AllocError, Global};
 /// The words of `check` over the four files.
 pub const CHECK: [&str; 6] = ["ras", "check", "inventory", "requests", "bindings", "plan"];
 
-/// The words of `move` over the four files and `events`, without options.
+/// The words of `move` over the four files and `last`, without options.
 pub const MOVE: [&str; 7] = [
     "ras",
     "move",
@@ -22,7 +22,18 @@ pub const MOVE: [&str; 7] = [
     "requests",
     "bindings",
     "plan",
-    "events",
+    "last",
+];
+
+/// The words of `spare` over the four files and `last`.
+pub const SPARE: [&str; 7] = [
+    "ras",
+    "spare",
+    "inventory",
+    "requests",
+    "bindings",
+    "plan",
+    "last",
 ];
 
 /// The number of a read that fails, and of a put that takes so many bytes and fails: 0 for none.
@@ -84,17 +95,17 @@ fn run_over(
     alloc: Global,
     words: Vec<Word>,
     texts: &Texts<'_>,
-    events: &str,
+    last: &str,
     failing: Failing,
 ) -> Result<Outcome, RunFault>
-    ensures { RunsTo (λ o. IsRun (files_in texts.now events.now) words.items (ended o))
-        (is_line words.items && are_short texts.now events.now) (files_in texts.now events.now) words.items result }
+    ensures { RunsTo (λ o. IsRun (files_in texts.now last.now) words.items (ended o))
+        (is_line words.items && are_short texts.now last.now) (files_in texts.now last.now) words.items result }
 {
-    if words.len() >= 1 << 32 || !are_short(texts, events) {
+    if words.len() >= 1 << 32 || !are_short(texts, last) {
         return Err(RunFault::Long);
     }
     let words = List::from_vec(words);
-    let mut shelf = shelf(alloc, texts, events, failing.read)?;
+    let mut shelf = shelf(alloc, texts, last, failing.read)?;
     let mut out = sink(alloc, failing.put, failing.taken)?;
     let mut note = sink(alloc, 0, 0)?;
     let status = status_at(alloc, &words, &mut shelf, &mut out, &mut note);
@@ -107,7 +118,7 @@ fn run_over(
     })
 }
 
-/// A run with these words over the four files, and an empty `events`.
+/// A run with these words over the four files, and an empty `last`.
 pub fn ran(
     alloc: Global,
     line: &[&str],
@@ -139,13 +150,13 @@ fn told_over(
     alloc: Global,
     words: Vec<Word>,
     texts: &Texts<'_>,
-    events: &str,
+    last: &str,
     failing: Failing,
 ) -> Result<String, RunFault>
-    ensures { RunsTo (λ t. IsTold (files_in texts.now events.now) words.items (string_bytes t))
-        (is_line words.items && are_short texts.now events.now) (files_in texts.now events.now) words.items result }
+    ensures { RunsTo (λ t. IsTold (files_in texts.now last.now) words.items (string_bytes t))
+        (is_line words.items && are_short texts.now last.now) (files_in texts.now last.now) words.items result }
 {
-    let outcome = run_over(alloc, words, texts, events, failing)?;
+    let outcome = run_over(alloc, words, texts, last, failing)?;
     Ok(told_of(alloc, &outcome)?)
 }
 
@@ -204,4 +215,22 @@ pub fn told_move(
 {
     let words = move_line(alloc, options)?;
     told_over(alloc, words, &texts, events, NOTHING)
+}
+
+// The words of `spare` over the five files.
+fn spare_line(alloc: Global) -> Result<Vec<Word>, AllocError>
+    ensures { IfOk result (λ words. words.items ≡ spare_words) }
+{
+    let mut words = Vec::new(alloc);
+    add(alloc, &mut words, SPARE.as_slice())?;
+    Ok(words)
+}
+
+/// The same for `spare` with these failures.
+pub fn told_spare(alloc: Global, texts: Texts<'_>, failures: &str) -> Result<String, RunFault>
+    ensures { RunsTo (λ t. IsTold (files_in texts.entry failures.now) spare_words (string_bytes t))
+        (are_short texts.entry failures.now) (files_in texts.entry failures.now) spare_words result }
+{
+    let words = spare_line(alloc)?;
+    told_over(alloc, words, &texts, failures, NOTHING)
 }

@@ -6,6 +6,8 @@ mod doubled;
 #[cfg(test)]
 mod machine;
 #[cfg(test)]
+mod spares;
+#[cfg(test)]
 mod steps;
 #[cfg(test)]
 mod texts;

@@ -298,11 +298,14 @@ fn as_many_events_as_may_be(rt: HostRuntime) -> Result<(), Fail> {
 
 #[test]
 fn events_without_a_head(rt: HostRuntime) -> Result<(), Fail> {
+    let region = two_servers(UNBOUND);
+    let requests = requests(rt.alloc(), region.take, region.reservations)?;
+    let plan = planned(rt.alloc(), r#""s1":"a","s2":"a""#, 4)?;
     let texts = Texts {
-        inventory: TWO,
-        requests: r#"{"format":1,"moves":{"take":1,"idle":5,"busy":50},"reservations":[]}"#,
-        bindings: UNBOUND,
-        plan: "{}",
+        inventory: region.inventory,
+        requests: requests.as_str(),
+        bindings: region.bindings,
+        plan: plan.as_str(),
     };
     let found = told_move(rt.alloc(), texts, "0,tick,\n", &[])?;
     assert!(rt;

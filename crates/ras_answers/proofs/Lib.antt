@@ -2,6 +2,6 @@ pub mod CheckLemmas
 pub mod InputLemmas
 pub mod JoinLemmas
 pub mod ShapeLemmas
-pub mod MoveLemmas
+pub mod TargetLemmas
 pub mod SolveLemmas
 pub mod SampleLemmas

@@ -1,13 +1,14 @@
 ghost use Rattle.std.specs.Prelude.{◌≡◌, ◌<◌, ◌≤◌, ◌*◌, ◌^◌, ◌++◌, codes, IfOk, IfSome, MatchResult, None, length, string_bytes, true};
 ghost use Rattle.std.specs.List.{list_all};
 ghost use Rattle.online_mover.specs.Events.{event_within};
+ghost use Rattle.spare_pool.specs.Steps.{change_within};
 ghost use Rattle.ras_table.specs.Answers.{Gives};
 ghost use Rattle.ras_inventory.specs.RegionRule.{server_names};
 ghost use Rattle.ras_inventory.specs.Regions.{seen as seen_region};
 ghost use Rattle.ras_requests.specs.RequestsRule.{reservation_names};
 ghost use Rattle.ras_requests.specs.Requested.{seen as seen_requests};
 ghost use Rattle.plan_document.specs.Documents.{seen_document};
-ghost use Rattle.ras_answers.specs.Inputs.{GivesCaseFiles, bindings_read, document_read, events_read, inventory_read, requests_read, told};
+ghost use Rattle.ras_answers.specs.Inputs.{GivesCaseFiles, bindings_read, document_read, events_read, failures_read, inventory_read, requests_read, told};
 
 use crate::all::CaseFiles;
 use online_mover::{EventsFault, Timed, read_events};
@@ -15,7 +16,10 @@ use plan_document::{DocFault, Document, read_document};
 use ras_inventory::{Bindings, BindingsFault, Region, RegionFault, read_bindings, read_region};
 use ras_requests::{Requests, RequestsFault, read_requests};
 use ras_table::List;
-use ras_texts::{bindings_note, document_note, events_note, region_note, requests_note};
+use ras_texts::{
+    bindings_note, document_note, events_note, failures_note, region_note, requests_note,
+};
+use spare_pool::{Failure, FailuresFault, read_failures};
 use std::alloc::{AllocError, Global};
 use thiserror::Error;
 
@@ -138,5 +142,22 @@ pub fn events_in(alloc: Global, region: &Region, bytes: &[u8]) -> Result<List<Ti
         Ok(events) => Ok(events),
         Err(EventsFault::At { line, why }) => Err(line_of(events_note(alloc, line, &why))),
         Err(EventsFault::Memory) => Err(InputFault::Memory),
+    }
+}
+
+/// The failures of a file over a region, or the note on their first fault.
+pub fn failures_in(
+    alloc: Global,
+    region: &Region,
+    bytes: &[u8],
+) -> Result<List<Failure>, InputFault>
+    requires { length bytes.now ≤ 64 * 2 ^ 20 }
+    ensures failures { Gives (λ failures. failures) told result (failures_read (server_names region.now.servers) bytes.now) }
+    ensures there { IfOk result (λ failures. list_all (λ failure. change_within (length region.now.servers) failure.change) failures ≡ true) }
+{
+    match read_failures(alloc, region, bytes) {
+        Ok(failures) => Ok(failures),
+        Err(FailuresFault::At { line, why }) => Err(line_of(failures_note(alloc, line, &why))),
+        Err(FailuresFault::Memory) => Err(InputFault::Memory),
     }
 }

@@ -9,6 +9,8 @@ mod laws;
 mod moves;
 mod sampling;
 mod solving;
+mod spares;
+mod targets;
 
 pub use all::{CaseFiles, Inputs};
 pub use answer::{Answer, Ending};
@@ -18,3 +20,4 @@ pub use laws::solved_is_checked;
 pub use moves::move_answer;
 pub use sampling::sample_answer;
 pub use solving::{Options, solve_answer};
+pub use spares::spare_answer;

@@ -1,4 +1,4 @@
-ghost use Rattle.std.specs.Prelude.{◌≡◌, ◌<◌, ◌≤◌, ◌*◌, ◌^◌, IfOk, IfSome, IsTrue, length, option_map, true};
+ghost use Rattle.std.specs.Prelude.{◌≡◌, ◌<◌, ◌≤◌, ◌*◌, ◌^◌, IfOk, IfSome, IsTrue, length, true};
 ghost use Rattle.std.specs.List.{list_all};
 ghost use Rattle.ras_inventory.specs.RegionRule.{server_names};
 ghost use Rattle.ras_requests.specs.RequestsRule.{reservation_names};
@@ -9,54 +9,20 @@ ghost use Rattle.plan_checker.specs.Shape.{HasShape};
 ghost use Rattle.online_mover.specs.Events.{event_within};
 ghost use Rattle.ras_answers.specs.Answered.{seen};
 ghost use Rattle.ras_answers.specs.Inputs.{events_read};
-ghost use Rattle.ras_answers.specs.Move.{IsMoveOn, MoveAnswers, MovesOver, MovesTo, no_target, planned_of, target_of};
+ghost use Rattle.ras_answers.specs.Move.{MoveAnswers, MovesTo};
+ghost use Rattle.ras_answers.specs.Target.{ByLines, IsByVerdict, ToTarget, target_of};
 
 use crate::all::Inputs;
 use crate::answer::{Answer, Ending};
 use crate::check::{judge, printed, read_inputs};
 use crate::inputs::{InputFault, events_in};
+use crate::targets::{no_target, target_of};
 use move_text::move_text;
 use online_mover::Timed;
 use plan_checker::Verdict;
-use plan_document::{Document, Planned};
-use plan_model::{Assignment, Case};
+use plan_model::Case;
 use ras_table::List;
 use std::alloc::{AllocError, Global};
-
-// The assignment of a plan.
-fn planned_of(plan: &Option<Planned>) -> Option<&Assignment>
-    ensures { option_map (λ a. a.now) result ≡ planned_of plan.now }
-{
-    match plan {
-        Some(plan) => Some(&plan.of),
-        None => None,
-    }
-}
-
-// Where the servers are to go: as the racks' part of the document says, or else the region's.
-fn target_of(document: &Document) -> Option<&Assignment>
-    ensures { option_map (λ a. a.now) result ≡ target_of document.now }
-{
-    let of_racks = match &document.rack {
-        Some(rack) => planned_of(&rack.part.plan),
-        None => None,
-    };
-    match of_racks {
-        Some(target) => Some(target),
-        None => planned_of(&document.region.plan),
-    }
-}
-
-// That there is nowhere to go.
-fn no_target(alloc: Global) -> Result<Answer, AllocError>
-    ensures { IfOk result (λ answer. seen answer ≡ no_target) }
-{
-    let text = Vec::from_slice(alloc, b"no target\n")?;
-    Ok(Answer::Printed {
-        ending: Ending::NotAccepted,
-        text,
-    })
-}
 
 // The moves to where an accepted document says.
 fn moves_to(
@@ -72,7 +38,7 @@ fn moves_to(
     requires some { 1 ≤ at_once }
     requires few { at_once ≤ 64 }
     requires there { list_all (λ timed. event_within (length inputs.now.files.region.servers) timed.event) events.now ≡ true }
-    ensures { IfOk result (λ answer. MovesTo inputs.now case.now at_once events.now (target_of inputs.now.document) (seen answer)) }
+    ensures { IfOk result (λ answer. ToTarget (MovesTo at_once inputs.now events.now) case.now (target_of inputs.now.document) (seen answer)) }
 {
     let Some(target) = target_of(&inputs.document) else {
         return no_target(alloc);
@@ -105,7 +71,7 @@ fn moves_answer(
     requires some { 1 ≤ at_once }
     requires few { at_once ≤ 64 }
     requires there { list_all (λ timed. event_within (length inputs.now.files.region.servers) timed.event) events.now ≡ true }
-    ensures { IfOk result (λ answer. IsMoveOn inputs.now at_once events.now (seen answer)) }
+    ensures { IfOk result (λ answer. IsByVerdict (MovesTo at_once inputs.now events.now) inputs.now (seen answer)) }
 {
     let judged = judge(alloc, inputs)?;
     match judged.verdict {
@@ -127,7 +93,7 @@ fn moves_over(
     requires events { length events.now ≤ 64 * 2 ^ 20 }
     requires some { 1 ≤ at_once }
     requires few { at_once ≤ 64 }
-    ensures { IfOk result (λ answer. MovesOver inputs.now at_once (events_read (server_names inputs.now.files.region.servers) events.now) (seen answer)) }
+    ensures { IfOk result (λ answer. ByLines (MovesTo at_once) inputs.now (events_read (server_names inputs.now.files.region.servers) events.now) (seen answer)) }
 {
     match events_in(alloc, &inputs.files.region, events) {
         Ok(events) => moves_answer(alloc, inputs, at_once, &events),

@@ -31,6 +31,7 @@ text_alone (command.Sample words) (text ∷ texts) a none is three = is
 text_alone (command.Check words) texts a none is three = cc
 text_alone (command.Solve words) texts a none is three = cc
 text_alone (command.Move words) texts a none is three = cc
+text_alone (command.Spare words) texts a none is three = cc
 
 not_other : (status other : ℕ) → (is_printed status ≡ true) ⊎ (status ≡ 3) ⊎ (status ≡ 7) → is_printed other ≡ false → (other ≡ 3 → ⊥) → (other ≡ 7 → ⊥) → status ≡ other → ⊥
 not_other status other known unprinted three seven is = elim known [

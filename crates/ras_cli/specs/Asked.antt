@@ -12,6 +12,7 @@ use Rattle.ras_answers.specs.Check.{CheckAnswers}
 use Rattle.ras_answers.specs.Move.{MoveAnswers}
 use Rattle.ras_answers.specs.Sample.{SampleAnswers}
 use Rattle.ras_answers.specs.Solve.{SolveAnswers}
+use Rattle.ras_answers.specs.Spare.{SpareAnswers}
 use Rattle.ras_answers.specs.declared.solving.Options.{Options}
 
 -- what words ask for, where they are taken
@@ -28,6 +29,8 @@ files_of (command.Check words) = (words.inventory, 16777216) ∷ (words.requests
 files_of (command.Solve words) = (words.inventory, 16777216) ∷ (words.requests, 16777216) ∷ (words.bindings, 16777216) ∷ []
 files_of (command.Move words) =
     (words.inventory, 16777216) ∷ (words.requests, 16777216) ∷ (words.bindings, 16777216) ∷ (words.plan, 67108864) ∷ (words.events, 16777216) ∷ []
+files_of (command.Spare words) =
+    (words.inventory, 16777216) ∷ (words.requests, 16777216) ∷ (words.bindings, 16777216) ∷ (words.plan, 67108864) ∷ (words.failures, 16777216) ∷ []
 files_of (command.Sample words) = []
 
 -- the files of what is asked for, and none where the words are not taken
@@ -44,6 +47,7 @@ abbrev pub Answers : Command → List (List ℕ) → Answered → Type 0
 Answers (command.Check words) (inventory ∷ requests ∷ bindings ∷ plan ∷ []) a = CheckAnswers inventory requests bindings plan a
 Answers (command.Solve words) (inventory ∷ requests ∷ bindings ∷ []) a = SolveAnswers inventory requests bindings (options_of words) a
 Answers (command.Move words) (inventory ∷ requests ∷ bindings ∷ plan ∷ events ∷ []) a = MoveAnswers inventory requests bindings plan events words.at_once a
+Answers (command.Spare words) (inventory ∷ requests ∷ bindings ∷ plan ∷ failures ∷ []) a = SpareAnswers inventory requests bindings plan failures a
 Answers (command.Sample words) [] a = SampleAnswers words.number words.size a
 Answers c texts a = ⊥
 

@@ -5,9 +5,12 @@ ghost use Rattle.ras_answers.specs.Check.{CheckAnswers};
 ghost use Rattle.ras_answers.specs.Move.{MoveAnswers};
 ghost use Rattle.ras_answers.specs.Sample.{SampleAnswers};
 ghost use Rattle.ras_answers.specs.Solve.{SolveAnswers};
+ghost use Rattle.ras_answers.specs.Spare.{SpareAnswers};
 ghost use Rattle.ras_cli.specs.Asked.{Answers, files_of, options_of};
 
-use ras_answers::{Answer, Options, check_answer, move_answer, sample_answer, solve_answer};
+use ras_answers::{
+    Answer, Options, check_answer, move_answer, sample_answer, solve_answer, spare_answer,
+};
 use ras_words::{Command, SolveWords};
 use std::alloc::{AllocError, Global};
 
@@ -52,6 +55,14 @@ pub fn answer_of(alloc: Global, command: &Command, files: &[Vec<u8>]) -> Result<
             files[3].as_slice(),
             files[4].as_slice(),
             words.at_once,
+        ),
+        Command::Spare(_) => spare_answer(
+            alloc,
+            files[0].as_slice(),
+            files[1].as_slice(),
+            files[2].as_slice(),
+            files[3].as_slice(),
+            files[4].as_slice(),
         ),
         Command::Sample(words) => sample_answer(alloc, words.number, words.size),
     }

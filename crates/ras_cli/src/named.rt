@@ -58,6 +58,13 @@ pub fn named_files<'a>(alloc: Global, command: &'a Command) -> Result<Vec<Named<
             plan(&words.plan),
             file(&words.events),
         ]?),
+        Command::Spare(words) => Ok(vec![in alloc;
+            file(&words.inventory),
+            file(&words.requests),
+            file(&words.bindings),
+            plan(&words.plan),
+            file(&words.failures),
+        ]?),
         Command::Sample(_) => Ok(Vec::new(alloc)),
     }
 }

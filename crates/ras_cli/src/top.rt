@@ -108,7 +108,7 @@ fn run_command<S: Shelf, K: Sink, E: Sink>(
 /// | Status | Comes |
 /// |---|---|
 /// | 0 | the command did what was asked, and its text is printed; for `solve` the document of a plan, whose gaps are at most the wanted one; for `sample` the lines of such a document, the wanted gap being 0 |
-/// | 1 | `check`, `move`: the files are valid and the document is not accepted; the reason is printed. `move`: the document is accepted and has no assignment; `no target` is printed |
+/// | 1 | `check`, `move`, `spare`: the files are valid and the document is not accepted; the reason is printed. `move`, `spare`: the document is accepted and has no assignment; `no target` is printed |
 /// | 2 | the words are not taken; a text for the user is on `note` |
 /// | 3 | a file is not valid; its first fault is on `note`. `solve`: the program of the region is too large; its size is on `note` |
 /// | 4, 5 | `solve`, `sample`: no assignment is allowed; the budget is spent. `solve` prints the document that shows it, `sample` its lines |

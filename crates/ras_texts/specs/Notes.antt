@@ -10,6 +10,8 @@ use Rattle.ras_requests.specs.declared.fault.RequestsWhy.{RequestsWhy}
 use Rattle.ras_requests.specs.declared.fault.RequestsWhy.TheVariants as requests
 use Rattle.online_mover.specs.declared.fault.EventsWhy.{EventsWhy}
 use Rattle.online_mover.specs.declared.fault.EventsWhy.TheVariants as events
+use Rattle.spare_pool.specs.declared.fault.FailuresWhy.{FailuresWhy}
+use Rattle.spare_pool.specs.declared.fault.FailuresWhy.TheVariants as failures
 use Rattle.plan_document.specs.declared.fault.DocPlace.{DocPlace}
 use Rattle.plan_document.specs.declared.fault.DocPlace.TheVariants as place
 use Rattle.plan_document.specs.declared.fault.DocWhy.{DocWhy}
@@ -62,6 +64,17 @@ events_why events.Many = codes "many"
 
 abbrev pub events_note : ℕ → EventsWhy → List ℕ
 events_note line why = codes "ras: events: line " ++ (decimal line ++ (codes ": " ++ events_why why))
+
+abbrev pub failures_why : FailuresWhy → List ℕ
+failures_why failures.Head = codes "head"
+failures_why (failures.Row fault) = row_text fault
+failures_why failures.Word = codes "word"
+failures_why failures.Unknown = codes "unknown"
+failures_why failures.Order = codes "order"
+failures_why failures.Many = codes "many"
+
+abbrev pub failures_note : ℕ → FailuresWhy → List ℕ
+failures_note line why = codes "ras: failures: line " ++ (decimal line ++ (codes ": " ++ failures_why why))
 
 abbrev pub place_text : DocPlace → List ℕ
 place_text place.Top = codes "top"

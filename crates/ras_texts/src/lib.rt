@@ -8,7 +8,8 @@ mod samples;
 mod verdicts;
 
 pub use notes::{
-    bindings_note, columns_note, document_note, events_note, region_note, requests_note, rows_note,
+    bindings_note, columns_note, document_note, events_note, failures_note, region_note,
+    requests_note, rows_note,
 };
 pub use samples::sample_text;
 pub use verdicts::verdict_text;

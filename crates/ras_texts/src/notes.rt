@@ -1,12 +1,13 @@
 //! The notes on files that are not valid, and on programs that are too large.
 ghost use Rattle.std.specs.Prelude.{◌≡◌, IfOk, string_bytes};
-ghost use Rattle.ras_texts.specs.Notes.{bindings_note, bindings_why, columns_note, document_note, document_why, events_note, events_why, place_text, region_note, region_why, requests_note, requests_why, row_text, rows_note};
+ghost use Rattle.ras_texts.specs.Notes.{bindings_note, bindings_why, columns_note, document_note, document_why, events_note, events_why, failures_note, failures_why, place_text, region_note, region_why, requests_note, requests_why, row_text, rows_note};
 
 use online_mover::EventsWhy;
 use plan_document::{DocPlace, DocWhy};
 use ras_inventory::{BindingsWhy, RegionWhy};
 use ras_requests::RequestsWhy;
 use ras_table::RowFault;
+use spare_pool::FailuresWhy;
 use std::alloc::{AllocError, Global};
 
 // Why a record is no row.
@@ -139,6 +140,28 @@ pub fn events_note(alloc: Global, line: u32, why: &EventsWhy) -> Result<String, 
 {
     let why = events_why(alloc, why)?;
     format!(in alloc; "ras: events: line {line}: {why}")
+}
+
+// Why a line of failures is refused.
+fn failures_why(alloc: Global, why: &FailuresWhy) -> Result<String, AllocError>
+    ensures { IfOk result (λ text. string_bytes text ≡ failures_why why.now) }
+{
+    match why {
+        FailuresWhy::Head => String::from_str(alloc, "head"),
+        FailuresWhy::Row(fault) => row_text(alloc, fault),
+        FailuresWhy::Word => String::from_str(alloc, "word"),
+        FailuresWhy::Unknown => String::from_str(alloc, "unknown"),
+        FailuresWhy::Order => String::from_str(alloc, "order"),
+        FailuresWhy::Many => String::from_str(alloc, "many"),
+    }
+}
+
+/// The note on failures: the line, and why it is refused.
+pub fn failures_note(alloc: Global, line: u32, why: &FailuresWhy) -> Result<String, AllocError>
+    ensures { IfOk result (λ text. string_bytes text ≡ failures_note line why.now) }
+{
+    let why = failures_why(alloc, why)?;
+    format!(in alloc; "ras: failures: line {line}: {why}")
 }
 
 /// The note on a program with too many columns.

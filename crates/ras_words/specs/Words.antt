@@ -6,6 +6,7 @@ use Rattle.ras_words.specs.Rows.{Refusal, NoCommand, needed, needed_number, numb
 use Rattle.ras_words.specs.declared.command.CheckWords.{CheckWords}
 use Rattle.ras_words.specs.declared.command.SolveWords.{SolveWords}
 use Rattle.ras_words.specs.declared.command.MoveWords.{MoveWords}
+use Rattle.ras_words.specs.declared.command.SpareWords.{SpareWords}
 use Rattle.ras_words.specs.declared.command.SampleWords.{SampleWords}
 use Rattle.ras_words.specs.declared.command.Command.{Command}
 use Rattle.ras_words.specs.declared.command.Command.TheVariants as command
@@ -60,6 +61,20 @@ move_words rows = record {
   at_once = number_in (codes "at-once") 1 64 8 rows;
 }
 
+-- `spare INVENTORY REQUESTS BINDINGS PLAN FAILURES`
+abbrev pub spare_app : App
+spare_app = with_rule (with_rule (files_app (codes "spare")) (needed (codes "PLAN"))) (needed (codes "FAILURES"))
+
+-- the words of `spare`
+abbrev pub spare_words : List Row → SpareWords
+spare_words rows = record {
+  inventory = value_of (codes "INVENTORY") rows;
+  requests = value_of (codes "REQUESTS") rows;
+  bindings = value_of (codes "BINDINGS") rows;
+  plan = value_of (codes "PLAN") rows;
+  failures = value_of (codes "FAILURES") rows;
+}
+
 -- `sample NUMBER SIZE`
 abbrev pub sample_app : App
 sample_app = with_rule (with_rule (new_app (codes "sample")) (needed_number (codes "NUMBER") 0 65536)) (needed_number (codes "SIZE") 2 40)
@@ -74,6 +89,7 @@ named name words =
     if bytes_eq name (codes "check") then with_rows (λ rows. command.Check (check_words rows)) (rows_read check_app words)
     else if bytes_eq name (codes "solve") then with_rows (λ rows. command.Solve (solve_words rows)) (rows_read solve_app words)
     else if bytes_eq name (codes "move") then with_rows (λ rows. command.Move (move_words rows)) (rows_read move_app words)
+    else if bytes_eq name (codes "spare") then with_rows (λ rows. command.Spare (spare_words rows)) (rows_read spare_app words)
     else if bytes_eq name (codes "sample") then with_rows (λ rows. command.Sample (sample_words rows)) (rows_read sample_app words)
     else Err NoCommand
 
@@ -88,4 +104,5 @@ abbrev pub InRanges : Command → Type 0
 InRanges (command.Check words) = ⊤
 InRanges (command.Solve words) = (words.gap ≤ 1000000000000) × (1 ≤ words.nodes) × (words.nodes ≤ 20000) × (words.racks ≤ 64)
 InRanges (command.Move words) = (1 ≤ words.at_once) × (words.at_once ≤ 64)
+InRanges (command.Spare words) = ⊤
 InRanges (command.Sample words) = (words.number ≤ 65536) × (2 ≤ words.size) × (words.size ≤ 40)

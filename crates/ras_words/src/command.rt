@@ -36,6 +36,16 @@ pub struct MoveWords {
     pub at_once: u32,
 }
 
+/// The files that `spare` reads.
+#[derive(Debug, Drop)]
+pub struct SpareWords {
+    pub inventory: Word,
+    pub requests: Word,
+    pub bindings: Word,
+    pub plan: Word,
+    pub failures: Word,
+}
+
 /// The numbers of `sample`.
 #[derive(Clone, Copy, Debug)]
 pub struct SampleWords {
@@ -51,6 +61,7 @@ pub enum Command {
     Check(CheckWords),
     Solve(SolveWords),
     Move(MoveWords),
+    Spare(SpareWords),
     Sample(SampleWords),
 }
 

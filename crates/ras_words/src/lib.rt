@@ -8,6 +8,9 @@ mod moves;
 mod read;
 mod sample;
 mod solve;
+mod spare;
 
-pub use command::{CheckWords, Command, MoveWords, SampleWords, SolveWords, WordsFault};
+pub use command::{
+    CheckWords, Command, MoveWords, SampleWords, SolveWords, SpareWords, WordsFault,
+};
 pub use read::read_words;

@@ -8,6 +8,7 @@ use crate::command::{Command, WordsFault};
 use crate::moves::read_move;
 use crate::sample::read_sample;
 use crate::solve::read_solve;
+use crate::spare::read_spare;
 use ras_table::Word;
 use std::alloc::Global;
 
@@ -22,6 +23,8 @@ fn read_named(alloc: Global, name: &str, words: &[Word]) -> Result<Command, Word
         Ok(Command::Solve(read_solve(alloc, words)?))
     } else if name == "move" {
         Ok(Command::Move(read_move(alloc, words)?))
+    } else if name == "spare" {
+        Ok(Command::Spare(read_spare(alloc, words)?))
     } else if name == "sample" {
         Ok(Command::Sample(read_sample(alloc, words)?))
     } else {

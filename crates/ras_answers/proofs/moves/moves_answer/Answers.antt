@@ -2,8 +2,9 @@ use Rattle.std.proofs.Common.{sym, subst}
 use Rattle.std.proofs.lemmas.Result.{IfOk-weaker}
 use Rattle.plan_checker.specs.declared.verdict.Verdict.{Verdict}
 use Rattle.ras_answers.specs.Answered.{seen}
-use Rattle.ras_answers.specs.Move.{MovesBy}
-use Rattle.ras_answers.proofs.MoveLemmas.{no-moves, target-fits, target-serves}
+use Rattle.ras_answers.specs.Move.{MovesTo}
+use Rattle.ras_answers.specs.Target.{ByVerdict}
+use Rattle.ras_answers.proofs.TargetLemmas.{by-no, target-fits, target-serves}
 use Rattle.ras_answers.proofs.moves.moves_answer.Goals as goal
 
 pub moves_to-requires : goal.moves_to-requires
@@ -25,7 +26,7 @@ returns-in-Yes c =
       case = c.in_ok-judged.judged.case;
       verdict = c.in_ok-judged.judged.verdict;
       judged = c.in_ok-judged.ensures.judged;
-      moves = subst (λ (v : Verdict). MovesBy c.args.inputs.now c.in_ok-judged.judged.case c.args.at_once c.args.events.now v (seen a)) (sym c.in-Yes.is) h;
+      answered = subst (λ (v : Verdict). ByVerdict (MovesTo c.args.at_once c.args.inputs.now c.args.events.now) c.args.inputs.now c.in_ok-judged.judged.case v (seen a)) (sym c.in-Yes.is) h;
     }) c.moves_to.ensures
 
 pub returns : goal.returns
@@ -34,5 +35,5 @@ returns c =
       case = c.in_ok-judged.judged.case;
       verdict = c.in_ok-judged.judged.verdict;
       judged = c.in_ok-judged.ensures.judged;
-      moves = no-moves c.args.inputs.now c.in_ok-judged.judged.case c.args.at_once c.args.events.now (seen a) c.in_ok-judged.judged.verdict c.in-No.field-0 c.in-No.is h;
+      answered = by-no (MovesTo c.args.at_once c.args.inputs.now c.args.events.now) c.args.inputs.now c.in_ok-judged.judged.case (seen a) c.in_ok-judged.judged.verdict c.in-No.field-0 c.in-No.is h;
     }) c.printed.ensures

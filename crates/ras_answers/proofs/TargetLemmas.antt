@@ -1,4 +1,4 @@
--- What `move` answers, by what was read.
+-- What a command answers at the target of a plan, by what was read.
 use Rattle.std.proofs.Common.{ℕ, ◌≡◌, ◌&&◌, Bool, true, false, sym, subst, refl, List, Option, Some, None, IfSome, option_and_then, Result, Ok, Err}
 use Rattle.std.specs.List.{list_all}
 use Rattle.ras_inventory.specs.RegionRule.{server_names}
@@ -20,12 +20,11 @@ use Rattle.plan_checker.specs.declared.verdict.Reason.{Reason}
 use Rattle.plan_checker.specs.declared.verdict.Verdict.{Verdict}
 use Rattle.plan_checker.specs.declared.verdict.Verdict.TheVariants.{No, Yes}
 use Rattle.plan_checker.specs.Shape.{GoesWith, HasPlan, HasShape, RackInRange}
-use Rattle.online_mover.specs.declared.timed.Timed.{Timed}
 use Rattle.ras_answers.specs.declared.all.Inputs.{Inputs}
 use Rattle.ras_answers.specs.Answered.{Answered, Invalid}
 use Rattle.ras_answers.specs.Check.{AreRead, verdict_answer}
-use Rattle.ras_answers.specs.Inputs.{events_read, invalid_note}
-use Rattle.ras_answers.specs.Move.{IsMoveOn, MoveAnswers, MovesBy, MovesOver, MovesWith, first_of, planned_of, target_of}
+use Rattle.ras_answers.specs.Inputs.{invalid_note}
+use Rattle.ras_answers.specs.Target.{ByFirstNote, ByLines, ByVerdict, IsByVerdict, TargetAnswers, first_of, planned_of, target_of}
 use Rattle.ras_answers.proofs.InputLemmas.{all-read}
 use Rattle.std.proofs.lemmas.Bool.{and_parts}
 
@@ -87,26 +86,26 @@ target-serves case document shape accepted =
 
 -- ---- answers
 
-pub answers-moves : (i r b p e : List ℕ) (n : ℕ) (inputs : Inputs) (a : Answered) → AreRead i r b p inputs → MovesOver inputs n (events_read (server_names inputs.files.region.servers) e) a
-    → MoveAnswers i r b p e n a
-unfolding MoveAnswers
-answers-moves i r b p e n inputs a read moved =
-    let none = all-read i r b p inputs.files (seen_document inputs.document) read.files read.document_is in
-    subst (λ (o : Option (List ℕ)). MovesWith i r b p e n o a) (sym none) (record { inputs = inputs; read = read; moved = moved })
+module _ {L : Type 0} (T : Inputs → L → Case → Assignment → Answered → Type 0) where
+  pub answers-lines : (read : List (List ℕ) → Result L (List ℕ)) (i r b p : List ℕ) (inputs : Inputs) (a : Answered) → AreRead i r b p inputs
+      → ByLines T inputs (read (server_names inputs.files.region.servers)) a → TargetAnswers T read i r b p a
+  unfolding TargetAnswers
+  answers-lines read i r b p inputs a are_read answered =
+      let none = all-read i r b p inputs.files (seen_document inputs.document) are_read.files are_read.document_is in
+      subst (λ (o : Option (List ℕ)). ByFirstNote T read i r b p o a) (sym none) (record { inputs = inputs; are_read = are_read; answered = answered })
 
-pub answers-first : (i r b p e : List ℕ) (n : ℕ) (note : List ℕ) → invalid_note i r b p ≡ Some note → MoveAnswers i r b p e n (Invalid note)
-unfolding MoveAnswers
-answers-first i r b p e n note some = subst (λ (o : Option (List ℕ)). MovesWith i r b p e n o (Invalid note)) (sym some) refl
+  pub answers-first : (read : List (List ℕ) → Result L (List ℕ)) (i r b p : List ℕ) (note : List ℕ) → invalid_note i r b p ≡ Some note → TargetAnswers T read i r b p (Invalid note)
+  unfolding TargetAnswers
+  answers-first read i r b p note some = subst (λ (o : Option (List ℕ)). ByFirstNote T read i r b p o (Invalid note)) (sym some) refl
+
+  pub lines-read : (inputs : Inputs) (read : Result L (List ℕ)) (lines : L) (a : Answered) → read ≡ Ok lines → IsByVerdict (T inputs lines) inputs a → ByLines T inputs read a
+  lines-read inputs read lines a e answered = subst (λ (r : Result L (List ℕ)). ByLines T inputs r a) (sym e) answered
+
+  pub lines-note : (inputs : Inputs) (read : Result L (List ℕ)) (note : List ℕ) → read ≡ Err note → ByLines T inputs read (Invalid note)
+  lines-note inputs read note e = subst (λ (r : Result L (List ℕ)). ByLines T inputs r (Invalid note)) (sym e) refl
 
 -- a verdict that is no is printed
-pub no-moves : (inputs : Inputs) (case : Case) (n : ℕ) (events : List Timed) (a : Answered) (verdict : Verdict) (reason : Reason) → verdict ≡ No reason → a ≡ verdict_answer inputs verdict
-    → MovesBy inputs case n events verdict a
-no-moves inputs case n events a Yes reason e h = absurd cc
-no-moves inputs case n events a (No found) reason e h = h
-
-pub over-moves : (inputs : Inputs) (n : ℕ) (read : Result (List Timed) (List ℕ)) (events : List Timed) (a : Answered) → read ≡ Ok events → IsMoveOn inputs n events a
-    → MovesOver inputs n read a
-over-moves inputs n read events a e moved = subst (λ (r : Result (List Timed) (List ℕ)). MovesOver inputs n r a) (sym e) moved
-
-pub over-note : (inputs : Inputs) (n : ℕ) (read : Result (List Timed) (List ℕ)) (note : List ℕ) → read ≡ Err note → MovesOver inputs n read (Invalid note)
-over-note inputs n read note e = subst (λ (r : Result (List Timed) (List ℕ)). MovesOver inputs n r (Invalid note)) (sym e) refl
+pub by-no : (T : Case → Assignment → Answered → Type 0) (inputs : Inputs) (case : Case) (a : Answered) (verdict : Verdict) (reason : Reason) → verdict ≡ No reason → a ≡ verdict_answer inputs verdict
+    → ByVerdict T inputs case verdict a
+by-no T inputs case a Yes reason e h = absurd cc
+by-no T inputs case a (No found) reason e h = h

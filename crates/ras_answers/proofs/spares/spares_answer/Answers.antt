@@ -1,0 +1,37 @@
+use Rattle.std.proofs.Common.{sym, subst}
+use Rattle.std.proofs.lemmas.Result.{IfOk-weaker}
+use Rattle.plan_checker.specs.declared.verdict.Verdict.{Verdict}
+use Rattle.ras_answers.specs.Answered.{seen}
+use Rattle.ras_answers.specs.Spare.{ReplacesFrom}
+use Rattle.ras_answers.specs.Target.{ByVerdict}
+use Rattle.ras_answers.proofs.TargetLemmas.{by-no, target-fits, target-serves}
+use Rattle.ras_answers.proofs.spares.spares_answer.Goals as goal
+
+pub replaces_from-requires : goal.replaces_from-requires
+replaces_from-requires c =
+    let judged = c.in_ok-judged.judged in
+    let accepted = c.in_ok-judged.ensures.judged.accepted.0 c.in-Yes.is in
+    record {
+      servers = c.in_ok-judged.ensures.places;
+      fitting = target-fits judged.case c.args.inputs.now.document c.in_ok-judged.ensures.shape accepted;
+      serving = target-serves judged.case c.args.inputs.now.document c.in_ok-judged.ensures.shape accepted;
+      there = c.requires.there;
+    }
+
+pub returns-in-Yes : goal.returns-in-Yes
+returns-in-Yes c =
+    IfOk-weaker c.replaces_from.result _ _ (λ a h. record {
+      case = c.in_ok-judged.judged.case;
+      verdict = c.in_ok-judged.judged.verdict;
+      judged = c.in_ok-judged.ensures.judged;
+      answered = subst (λ (v : Verdict). ByVerdict (ReplacesFrom c.args.inputs.now c.args.failures.now) c.args.inputs.now c.in_ok-judged.judged.case v (seen a)) (sym c.in-Yes.is) h;
+    }) c.replaces_from.ensures
+
+pub returns : goal.returns
+returns c =
+    IfOk-weaker c.printed.result _ _ (λ a h. record {
+      case = c.in_ok-judged.judged.case;
+      verdict = c.in_ok-judged.judged.verdict;
+      judged = c.in_ok-judged.ensures.judged;
+      answered = by-no (ReplacesFrom c.args.inputs.now c.args.failures.now) c.args.inputs.now c.in_ok-judged.judged.case (seen a) c.in_ok-judged.judged.verdict c.in-No.field-0 c.in-No.is h;
+    }) c.printed.ensures
