@@ -1,3 +1,4 @@
+pub mod HeadlineLemmas
 pub mod PiecesLemmas
 pub mod PutsLemmas
 pub mod ReadLemmas

@@ -3,3 +3,4 @@ pub mod Puts
 pub mod Runs
 pub mod Named
 pub mod Reads
+pub mod Headline

@@ -5,6 +5,7 @@ ghost use Rattle.ras_words.specs.Rows.{Refused};
 ghost use Rattle.ras_words.specs.Words.{InRanges, command_of};
 ghost use Rattle.ras_answers.specs.Answered.{seen};
 ghost use Rattle.ras_cli.specs.Asked.{BreaksHeld, LongerHeld, asked_of, files_asked, files_of};
+ghost use Rattle.ras_cli.specs.Headline.{Headline};
 ghost use Rattle.ras_cli.specs.Puts.{AllPut, PutOnce, StopsAt, pieces_of};
 ghost use Rattle.ras_cli.specs.Reads.{AnswersRead, AtRead, EndsAt, SomeRead};
 ghost use Rattle.ras_cli.specs.Runs.{AtAnswer, Tells, is_printed, note_of, status_of, text_of};
@@ -60,6 +61,7 @@ fn run_command<S: Shelf, K: Sink, E: Sink>(
     note: &mut E,
 ) -> u8
     requires ranges { InRanges command.now }
+    ensures headline { result ≡ 0 → Headline (S.held shelf.old) (Some command.now) }
     ensures held { S.held shelf.new ≡ S.held shelf.old }
     ensures order { SomeRead S.reads shelf.old (files_of command.now) shelf.new }
     ensures stops_failed { result ≡ 6 → EndsAt S.reads shelf.old (files_of command.now) ShelfFault.Failed shelf.new }
@@ -125,6 +127,7 @@ pub fn run<S: Shelf, K: Sink, E: Sink>(
     out: &mut K,
     note: &mut E,
 ) -> u8
+    ensures headline { result ≡ 0 → Headline (S.held shelf.old) (asked_of words.now) }
     ensures refused { result ≡ 2 → asked_of words.now ≡ None }
     ensures refuses { asked_of words.now ≡ None → (result ≡ 2) ⊎ (result ≡ 9) }
     ensures told_refused { result ≡ 2 → command_of words.now ≢ Err Refused
