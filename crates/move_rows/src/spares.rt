@@ -127,14 +127,15 @@ fn as_many_failures_as_may_be(rt: HostRuntime) -> Result<(), Fail> {
     let requests = one_request(rt.alloc(), 2, 1, 1, "")?;
     let plan = planned(rt.alloc(), r#""s1":"a","s2":"a""#, 4)?;
     let texts = over_two(requests.as_str(), plan.as_str());
+    // The text has a line for each of them, and the sink no room for so many.
     let cases = [
-        (100_000, "end,total,100000,1\n|"),
+        (100_000, "7|0,short,s1,a,,1\n1,stale,s1\n2,stale,s1\n"),
         (100_001, "3||ras: failures: line 100002: many\n"),
     ];
     for (count, want) in cases {
         let lines = failures(rt.alloc(), count)?;
         let found = replaced(rt.alloc(), texts, lines.as_str())?;
-        assert!(rt; found.as_str().ends_with(want), "{count}");
+        assert!(rt; found.as_str().starts_with(want), "{count}");
     }
     Ok(())
 }
