@@ -39,10 +39,16 @@ fn pool_of_one_type(rt: HostRuntime) -> Result<(), Fail> {
             "0|0,idle,s1\n0,return,s1\n0,stale,s1\nend,total,3,0\n|",
         ),
         ("0,fail,s5\n", "3||ras: failures: line 2: unknown\n"),
-        ("5,fail,s1\n4,repair,s1\n", "3||ras: failures: line 3: order\n"),
+        (
+            "5,fail,s1\n4,repair,s1\n",
+            "3||ras: failures: line 3: order\n",
+        ),
         ("5,down,s1\n", "3||ras: failures: line 2: word\n"),
         ("5,fail\n", "3||ras: failures: line 2: columns 2\n"),
-        ("5,fail,s1\nx,fail,s1\n", "3||ras: failures: line 3: column 1\n"),
+        (
+            "5,fail,s1\nx,fail,s1\n",
+            "3||ras: failures: line 3: column 1\n",
+        ),
     ];
     let requests = one_request(rt.alloc(), 1, 10, 5, "")?;
     let plan = planned(rt.alloc(), r#""s2":"a","s3":"a","s4":"a""#, 6)?;
@@ -73,7 +79,8 @@ fn pool_of_two_types(rt: HostRuntime) -> Result<(), Fail> {
     let lines = "0,fail,s1\n1,fail,s3\n2,repair,s1\n3,fail,s4\n";
     let found = replaced(rt.alloc(), texts, lines)?;
     assert!(rt;
-        found.as_str() == "0|0,replace,s1,a,s3\n1,replace,s3,a,s4\n2,return,s1\n3,short,s4,a,s1,6\nend,total,4,1\n|",
+        found.as_str()
+            == "0|0,replace,s1,a,s3\n1,replace,s3,a,s4\n2,return,s1\n3,short,s4,a,s1,6\nend,total,4,1\n|",
         "{found}"
     );
     Ok(())
