@@ -96,6 +96,11 @@ fn over_two<'a>(requests: &'a str, plan: &'a str) -> Texts<'a> {
     }
 }
 
+// What a run over two servers that nobody holds tells.
+fn replaced_of_two(alloc: Global, requests: &str, plan: &str, lines: &str) -> Result<String, Fail> {
+    replaced(alloc, over_two(requests, plan), lines)
+}
+
 #[test]
 fn no_target_to_start_from(rt: HostRuntime) -> Result<(), Fail> {
     let requests = one_request(rt.alloc(), 2, 3, 1, "")?;
@@ -113,7 +118,7 @@ fn no_target_to_start_from(rt: HostRuntime) -> Result<(), Fail> {
         ("{", "0,fail,s3\n", "3||ras: plan: top: not json\n"),
     ];
     for (plan, lines, want) in cases {
-        let found = replaced(rt.alloc(), over_two(requests.as_str(), plan), lines)?;
+        let found = replaced_of_two(rt.alloc(), requests.as_str(), plan, lines)?;
         assert!(rt; found.as_str() == want, "{found}");
     }
     Ok(())
