@@ -1,4 +1,6 @@
 //! A region whose relaxations have numbers that fit no certificate, so that its boxes are split without a point.
+ghost use Rattle.std.specs.Prelude.{◌<◌};
+
 use crate::documents::{UNBOUND, requests};
 use crate::runs::{Texts, solve};
 use std::alloc::{AllocError, Global};
