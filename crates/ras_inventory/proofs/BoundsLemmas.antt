@@ -87,11 +87,11 @@ pub bindings-given : (servers : List (List ℕ)) (bytes : List ℕ) (bounds : Li
 bindings-given servers bytes bounds list read is = ap (λ o. and_then o (λ b. Ok (map (binding_for b) servers))) read ∙ ap Ok (sym is)
 
 pub region-few : (region : Region) → length region.servers ≤ 20000
-region-few region = most-of (nat_le (length region.servers) 20000) _ _ _ _ region.kept (λ e. most-is (length region.servers) 20000 e)
+region-few region = most-of (nat_le (length region.servers) 20000) _ _ _ _ _ region.kept (λ e. most-is (length region.servers) 20000 e)
   where
     most-is : (a b : ℕ) → nat_le a b ≡ true → a ≤ b
     most-is a b h = grind (arith, nat_tests)
 
-    most-of : (a b c d e : Bool) → (a && b && c && d && e) ≡ true → (a ≡ true → length region.servers ≤ 20000) → length region.servers ≤ 20000
-    most-of true b c d e h k = k refl
-    most-of false b c d e h k = absurd cc
+    most-of : (a b c d e f : Bool) → (a && b && c && d && e && f) ≡ true → (a ≡ true → length region.servers ≤ 20000) → length region.servers ≤ 20000
+    most-of true b c d e f h k = k refl
+    most-of false b c d e f h k = absurd cc

@@ -5,12 +5,13 @@ use Rattle.std.specs.Bool.{⊤}
 use Rattle.std.specs.List.{list_any, list_all}
 use Rattle.std.specs.Str.{bytes_eq}
 use Rattle.std.proofs.lemmas.Bool.Decides.{nat_tests}
-use Rattle.std.proofs.lemmas.List.{map-append, take_more, length-map, length-take}
+use Rattle.std.proofs.lemmas.List.{map-append, take_more, length-map, length-take, length-append}
 use Rattle.std.proofs.lemmas.List.Folds.{list_any-append}
 use Rattle.ras_table.specs.Numbered.{after_number}
 use Rattle.ras_table.specs.Names.{number_of, names_differ}
-use Rattle.ras_table.proofs.NamesLemmas.{number-there, number-below, number-tells, same-bytes}
+use Rattle.ras_table.proofs.NamesLemmas.{number-there, number-below, number-tells, same-bytes, bytes-same}
 use Rattle.ras_inventory.specs.Lines.{distinct, distinct_from}
+use Rattle.ras_inventory.proofs.LinesLemmas.{length-after}
 use Rattle.ras_inventory.specs.HomeWords.{home_of}
 use Rattle.ras_inventory.specs.Registers.{AreRegular, AreHomed, racks_on_boards, boards_in_centers}
 use Rattle.ras_inventory.specs.Regions.{server_of, place_in, AreLabelsOf}
@@ -170,16 +171,58 @@ pub names-of-servers : (lines ls : List Line) → server_names (map (server_of l
 names-of-servers lines [] = refl
 names-of-servers lines (l ∷ ls) = ap (λ n. l.name ∷ n) (names-of-servers lines ls)
 
-five : (a b c d e : Bool) → a ≡ true → b ≡ true → c ≡ true → d ≡ true → e ≡ true → (a && b && c && d && e) ≡ true
-five a b c d e p q r s t = rw (p, q, r, s, t) refl
+-- a switchboard has one datacenter: so there are no more datacenters than switchboards
+no-more-homes : (home : List ℕ → Option (List ℕ)) (inner outer : List (List ℕ)) (ls : List Line) → Each (λ l. home l.board ≡ Some l.center) ls
+    → ((q x : List ℕ) → list_any (bytes_eq q) inner ≡ true → home q ≡ Some x → list_any (bytes_eq x) outer ≡ true) → length outer ≤ length inner
+    → length (distinct_from outer (map (λ l. l.center) ls)) ≤ length (distinct_from inner (map (λ l. l.board) ls))
+unfolding is-there
+no-more-homes home inner outer [] at known fewer = fewer
+no-more-homes home inner outer (l ∷ ls) at known fewer =
+    no-more-homes home (after_number inner l.board) (after_number outer l.center) ls at.1 known-then (fewer-then (is_some (number_of inner l.board)) refl)
+  where
+    home-of-same : (q x : List ℕ) → q ≡ l.board → home q ≡ Some x → x ≡ l.center
+    home-of-same q x same is =
+        let some : Some x ≡ Some l.center = sym is ∙ ap home same ∙ at.0 in
+        cc
+
+    known-in : (q x : List ℕ) → home q ≡ Some x → (b c : Bool) → list_any (bytes_eq q) inner ≡ b → bytes_eq q l.board ≡ c → (b || (c || false)) ≡ true
+        → list_any (bytes_eq x) (after_number outer l.center) ≡ true
+    known-in q x is true c there same either = stays-named x outer l.center (known q x there is)
+    known-in q x is false true there same either =
+        subst (λ (y : List ℕ). list_any (bytes_eq y) (after_number outer l.center) ≡ true) (sym (home-of-same q x (bytes-same q l.board same) is)) (given-named outer l.center)
+    known-in q x is false false there same either = cc
+
+    known-then : (q x : List ℕ) → list_any (bytes_eq q) (after_number inner l.board) ≡ true → home q ≡ Some x → list_any (bytes_eq x) (after_number outer l.center) ≡ true
+    known-then q x there is = by (is_some (number_of inner l.board)) there
+      where
+        by : (b : Bool) → list_any (bytes_eq q) (cond b inner (inner ++ l.board ∷ [])) ≡ true → list_any (bytes_eq x) (after_number outer l.center) ≡ true
+        by true told = stays-named x outer l.center (known q x told is)
+        by false told =
+            known-in q x is (list_any (bytes_eq q) inner) (bytes_eq q l.board) refl refl (sym (list_any-append (bytes_eq q) inner (l.board ∷ [])) ∙ told)
+
+    fewer-then : (b : Bool) → is_some (number_of inner l.board) ≡ b → length (after_number outer l.center) ≤ length (after_number inner l.board)
+    fewer-then true there =
+        let outer-there : is_some (number_of outer l.center) ≡ true = number-there l.center outer ∙ known l.board l.center (sym (number-there l.board inner) ∙ there) at.0 in
+        let same-inner : after_number inner l.board ≡ inner = rw there refl in
+        let same-outer : after_number outer l.center ≡ outer = rw outer-there refl in
+        rw (same-inner, same-outer) fewer
+    fewer-then false there =
+        let more : after_number inner l.board ≡ inner ++ l.board ∷ [] = rw there refl in
+        omega (arith, length-after outer l.center, ap length more, length-append inner (l.board ∷ []), fewer)
+
+six : (a b c d e f : Bool) → a ≡ true → b ≡ true → c ≡ true → d ≡ true → e ≡ true → f ≡ true → (a && b && c && d && e && f) ≡ true
+six a b c d e f p q r s t u = rw (p, q, r, s, t, u) refl
 
 pub region-kept : (lines : List Line) → AreRegular lines
     → region_rule (map (server_of lines) lines) (distinct (map (λ l. l.kind) lines)) (distinct (map (λ l. l.rack) lines)) (distinct (map (λ l. l.board) lines)) (distinct (map (λ l. l.center) lines)) ≡ true
 region-kept lines regular =
     let stand = all-stand lines regular in
-    five (nat_le (length (map (server_of lines) lines)) 20000) (nat_le (length (distinct (map (λ l. l.board) lines))) 64) _ _ _
+    let homes = each-homed (home_of (boards_in_centers lines)) (λ l. l.board) (λ l. l.center) lines regular.centers in
+    let fewer = no-more-homes (home_of (boards_in_centers lines)) [] [] lines homes (λ q x there is. absurd cc) (omega arith) in
+    six (nat_le (length (map (server_of lines) lines)) 20000) (nat_le (length (distinct (map (λ l. l.board) lines))) 64) (nat_le (length (distinct (map (λ l. l.center) lines))) 64) _ _ _
     (most-true (length (map (server_of lines) lines)) 20000 (omega (arith, length-map lines (server_of lines), regular.few)))
     (most-true (length (distinct (map (λ l. l.board) lines))) 64 regular.boards)
+    (most-true (length (distinct (map (λ l. l.center) lines))) 64 (omega (arith, fewer, regular.boards)))
     (in-range lines lines stand) (all-together lines lines lines stand stand)
     (ap names_differ (names-of-servers lines lines) ∙ regular.names)
 

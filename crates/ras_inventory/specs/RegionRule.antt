@@ -19,7 +19,7 @@ stand_together s t = (not (s.rack == t.rack) || s.board == t.board) && (not (s.b
 -- the rule of a region: its servers, and the names of its types, racks, switchboards and datacenters
 abbrev pub region_rule : List Server → List (List ℕ) → List (List ℕ) → List (List ℕ) → List (List ℕ) → Bool
 region_rule servers types racks boards centers =
-    nat_le (length servers) 20000 && nat_le (length boards) 64
+    nat_le (length servers) 20000 && nat_le (length boards) 64 && nat_le (length centers) 64
     && list_all (server_in_range (length types) (length racks) (length boards) (length centers)) servers
     && list_all (λ s. list_all (stand_together s) servers) servers
     && names_differ (server_names servers)

@@ -147,22 +147,22 @@ requests-kept moves list range few kept =
     four (moves_in_range moves) (nat_le (length list) 64) (list_all reservation_rule list) (names_differ (reservation_names list)) range (most-true (length list) 64 few) kept.rules kept.names
 
 -- the loop over the entries goes on by one
-entries-split : (i : ℕ) (list : List Reservation) (entries : List Json) (d : Json) → i < length entries
-    → reservations_from (i + 1) list (map view (drop i entries)) ≡ and_then (reservation_at (i + 1) list (view (get_or entries i d))) (λ r. reservations_from (i + 1 + 1) (list ++ r ∷ []) (map view (drop (i + 1) entries)))
-entries-split i list entries d within = ap (λ l. reservations_from (i + 1) list (map view l)) (drop-cons entries i d within) ∙ rw (add-one i) refl
+entries-split : (format i : ℕ) (list : List Reservation) (entries : List Json) (d : Json) → i < length entries
+    → reservations_from format (i + 1) list (map view (drop i entries)) ≡ and_then (reservation_at format (i + 1) list (view (get_or entries i d))) (λ r. reservations_from format (i + 1 + 1) (list ++ r ∷ []) (map view (drop (i + 1) entries)))
+entries-split format i list entries d within = ap (λ l. reservations_from format (i + 1) list (map view l)) (drop-cons entries i d within) ∙ rw (add-one i) refl
 
-pub entries-go : (i : ℕ) (list : List Reservation) (entries : List Json) (d : Json) (r : Reservation) (all : Result (List Reservation) RequestsFault) → i < length entries
-    → reservations_from (i + 1) list (map view (drop i entries)) ≡ all → reservation_at (i + 1) list (view (get_or entries i d)) ≡ Ok r
-    → reservations_from (i + 1 + 1) (list ++ r ∷ []) (map view (drop (i + 1) entries)) ≡ all
-entries-go i list entries d r all within so is =
-    sym (ap (λ o. and_then o (λ r. reservations_from (i + 1 + 1) (list ++ r ∷ []) (map view (drop (i + 1) entries)))) is) ∙ sym (entries-split i list entries d within) ∙ so
+pub entries-go : (format i : ℕ) (list : List Reservation) (entries : List Json) (d : Json) (r : Reservation) (all : Result (List Reservation) RequestsFault) → i < length entries
+    → reservations_from format (i + 1) list (map view (drop i entries)) ≡ all → reservation_at format (i + 1) list (view (get_or entries i d)) ≡ Ok r
+    → reservations_from format (i + 1 + 1) (list ++ r ∷ []) (map view (drop (i + 1) entries)) ≡ all
+entries-go format i list entries d r all within so is =
+    sym (ap (λ o. and_then o (λ r. reservations_from format (i + 1 + 1) (list ++ r ∷ []) (map view (drop (i + 1) entries)))) is) ∙ sym (entries-split format i list entries d within) ∙ so
 
 -- and stops at its first fault
-pub entries-stop : (i : ℕ) (list : List Reservation) (entries : List Json) (d : Json) (e : RequestsFault) (all : Result (List Reservation) RequestsFault) → i < length entries
-    → reservations_from (i + 1) list (map view (drop i entries)) ≡ all → IfSome (told e) (λ f. reservation_at (i + 1) list (view (get_or entries i d)) ≡ Err f) → IfSome (told e) (λ f. all ≡ Err f)
-entries-stop i list entries d Memory all within so is = tt
-entries-stop i list entries d (At place w) all within so is =
-    sym so ∙ entries-split i list entries d within ∙ ap (λ o. and_then o (λ r. reservations_from (i + 1 + 1) (list ++ r ∷ []) (map view (drop (i + 1) entries)))) is
+pub entries-stop : (format i : ℕ) (list : List Reservation) (entries : List Json) (d : Json) (e : RequestsFault) (all : Result (List Reservation) RequestsFault) → i < length entries
+    → reservations_from format (i + 1) list (map view (drop i entries)) ≡ all → IfSome (told e) (λ f. reservation_at format (i + 1) list (view (get_or entries i d)) ≡ Err f) → IfSome (told e) (λ f. all ≡ Err f)
+entries-stop format i list entries d Memory all within so is = tt
+entries-stop format i list entries d (At place w) all within so is =
+    sym so ∙ entries-split format i list entries d within ∙ ap (λ o. and_then o (λ r. reservations_from format (i + 1 + 1) (list ++ r ∷ []) (map view (drop (i + 1) entries)))) is
 
 -- a slice up to the end
 pub rest-is : (near : List Aim) (k : ℕ) → take (length near - k) (drop k near) ≡ drop k near

@@ -36,4 +36,5 @@ seen_draft d = record {
   rack_limit = d.penalties.rack_limit;
   rack_weight = d.penalties.rack_weight;
   near = seen_aims d.near;
+  protection = d.protection;
 }

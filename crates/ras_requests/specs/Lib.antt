@@ -1,4 +1,5 @@
 pub mod Members
+pub mod Protections
 pub mod RequestsRule
 pub mod Shapes
 pub mod Drafts

@@ -32,21 +32,21 @@ abbrev pub top_names : List (List ℕ)
 top_names = codes "format" ∷ codes "moves" ∷ codes "reservations" ∷ []
 
 -- the first rule of the whole that is broken, in this order: the format, the move costs, how many reservations there are
-abbrev pub in_limits : ℕ → Moves → List Data → Result (Moves × List Data) RequestsWhy
+abbrev pub in_limits : ℕ → Moves → List Data → Result (ℕ × Moves × List Data) RequestsWhy
 in_limits format moves entries =
-    if not (format == 1) then Err why.Format
+    if not (format == 1 || format == 2) then Err why.Format
     else if not (moves_in_range moves) then Err why.Range
     else if nat_lt 64 (length entries) then Err why.Many
-    else Ok (moves, entries)
+    else Ok (format, moves, entries)
 
-abbrev pub top_in : Option ℕ → Option Moves → Option (List Data) → Result (Moves × List Data) RequestsWhy
+abbrev pub top_in : Option ℕ → Option Moves → Option (List Data) → Result (ℕ × Moves × List Data) RequestsWhy
 top_in (Some format) (Some moves) (Some entries) = in_limits format moves entries
 top_in (Some format) (Some moves) None = Err why.Shape
 top_in (Some format) None entries = Err why.Shape
 top_in None moves entries = Err why.Shape
 
--- the move costs and the entries of the whole, or its first fault
-abbrev pub top_of : Data → Result (Moves × List Data) RequestsWhy
+-- the format, the move costs and the entries of the whole, or its first fault
+abbrev pub top_of : Data → Result (ℕ × Moves × List Data) RequestsWhy
 top_of d = if is_object_of top_names (as_object d)
     then top_in (needed_whole (codes "format") d) (option_and_then moves_of (get (codes "moves") d)) (entries_in d)
     else Err why.Shape
@@ -71,22 +71,22 @@ abbrev pub if_none : ℕ → Reservation → Option RequestsWhy → Result Reser
 if_none place r None = Ok r
 if_none place r (Some w) = Err (At place w)
 
-abbrev pub shaped : ℕ → List Reservation → Option Reservation → Result Reservation RequestsFault
-shaped place before None = Err (At place why.Shape)
-shaped place before (Some r) = if_none place r (first_fault before r)
+abbrev pub shaped : ℕ → List Reservation → Result Reservation RequestsWhy → Result Reservation RequestsFault
+shaped place before (Err w) = Err (At place w)
+shaped place before (Ok r) = if_none place r (first_fault before r)
 
--- the reservation of an entry at this place, or its first fault
-abbrev pub reservation_at : ℕ → List Reservation → Data → Result Reservation RequestsFault
-reservation_at place before d = shaped place before (reservation_of d)
+-- the reservation of an entry at this place of a file of this format, or its first fault
+abbrev pub reservation_at : ℕ → ℕ → List Reservation → Data → Result Reservation RequestsFault
+reservation_at format place before d = shaped place before (reservation_of format d)
 
 abbrev pub and_then : {A B : Type 0} → Result A RequestsFault → (A → Result B RequestsFault) → Result B RequestsFault
 and_then (Ok x) f = f x
 and_then (Err e) f = Err e
 
 -- the reservations from this place on, or the first fault
-abbrev pub reservations_from : ℕ → List Reservation → List Data → Result (List Reservation) RequestsFault
-reservations_from place before [] = Ok before
-reservations_from place before (d ∷ ds) = and_then (reservation_at place before d) (λ r. reservations_from (place + 1) (before ++ r ∷ []) ds)
+abbrev pub reservations_from : ℕ → ℕ → List Reservation → List Data → Result (List Reservation) RequestsFault
+reservations_from format place before [] = Ok before
+reservations_from format place before (d ∷ ds) = and_then (reservation_at format place before d) (λ r. reservations_from format (place + 1) (before ++ r ∷ []) ds)
 
 -- what is seen of requests
 pub record Requested : Type 0 where
@@ -96,9 +96,9 @@ pub record Requested : Type 0 where
 abbrev pub seen : Requests → Requested
 seen r = record { moves = r.moves; list = r.list }
 
-abbrev pub listed : Result (Moves × List Data) RequestsWhy → Result Requested RequestsFault
+abbrev pub listed : Result (ℕ × Moves × List Data) RequestsWhy → Result Requested RequestsFault
 listed (Err w) = Err (At 0 w)
-listed (Ok top) = and_then (reservations_from 1 [] top.1) (λ list. Ok (record { moves = top.0; list = list }))
+listed (Ok top) = and_then (reservations_from top.0 1 [] top.2) (λ list. Ok (record { moves = top.1; list = list }))
 
 abbrev pub of_value : Option Data → Result Requested RequestsFault
 of_value None = Err (At 0 why.NotJson)

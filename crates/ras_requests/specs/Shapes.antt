@@ -1,14 +1,19 @@
 -- The shapes of the parts of a file of requests.
-use Rattle.std.specs.Prelude.{ℕ, List, [], ◌∷◌, codes, Option, Some, None, option_and_then, if◌then◌else◌}
+use Rattle.std.specs.Prelude.{ℕ, ◌==◌, List, [], ◌∷◌, codes, Option, Some, None, option_and_then, Result, Ok, Err, if◌then◌else◌}
 use Rattle.serde_json.specs.Data.{Data, Members, no_members, member}
-use Rattle.serde_json.specs.Find.{get, as_object, as_array}
+use Rattle.serde_json.specs.Find.{get, as_object, as_array, as_str}
 use Rattle.ras_table.specs.Names.{is_name}
 use Rattle.ras_requests.specs.Members.{items_list, whole, needed_whole, optional_whole, is_object_of, name_in}
+use Rattle.ras_requests.specs.Protections.{protection_of_text}
 use Rattle.ras_requests.specs.declared.requests.Moves.{Moves}
 use Rattle.ras_requests.specs.declared.requests.Value.{Value}
 use Rattle.ras_requests.specs.declared.requests.Near.{Near}
+use Rattle.ras_requests.specs.declared.requests.Protection.{Protection}
+use Rattle.ras_requests.specs.declared.requests.Protection.TheVariants.{Board}
 use Rattle.ras_requests.specs.declared.requests.Reservation.{Reservation}
 use Rattle.ras_requests.specs.declared.draft.Penalties.{Penalties}
+use Rattle.ras_requests.specs.declared.fault.RequestsWhy.{RequestsWhy}
+use Rattle.ras_requests.specs.declared.fault.RequestsWhy.TheVariants as why
 
 -- the move costs: an object with exactly these members
 abbrev pub moves_members : List (List ℕ)
@@ -70,13 +75,29 @@ penalties_of d = option_and_then (λ buffer_weight. option_and_then (λ spread_l
     (optional_whole (codes "rack_weight") d)) (optional_whole (codes "rack_limit") d)) (optional_whole (codes "spread_weight") d)) (optional_whole (codes "spread_limit") d))
     (optional_whole (codes "buffer_weight") d)
 
+-- the protection, which format 2 must name and format 1 has no member for: there each reservation is kept after the loss of a switchboard
+abbrev pub known : Option Protection → Result Protection RequestsWhy
+known None = Err why.Range
+known (Some protection) = Ok protection
+
+abbrev pub protection_named : Option (List ℕ) → Result Protection RequestsWhy
+protection_named None = Err why.Shape
+protection_named (Some text) = known (protection_of_text text)
+
+abbrev pub protection_implied : Option Data → Result Protection RequestsWhy
+protection_implied None = Ok Board
+protection_implied (Some d) = Err why.Shape
+
+abbrev pub protection_in : ℕ → Option Data → Result Protection RequestsWhy
+protection_in format found = if format == 1 then protection_implied found else protection_named (option_and_then as_str found)
+
 -- a reservation: an object with these members, of which the first three must be there
 abbrev pub reservation_members : List (List ℕ)
 reservation_members =
-    codes "name" ∷ codes "need" ∷ codes "values" ∷ codes "buffer_weight" ∷ codes "spread_limit" ∷ codes "spread_weight" ∷ codes "rack_limit" ∷ codes "rack_weight" ∷ codes "near" ∷ []
+    codes "name" ∷ codes "need" ∷ codes "values" ∷ codes "buffer_weight" ∷ codes "spread_limit" ∷ codes "spread_weight" ∷ codes "rack_limit" ∷ codes "rack_weight" ∷ codes "near" ∷ codes "protection" ∷ []
 
-abbrev pub reservation_in : Option (List ℕ) → Option ℕ → Option (List Value) → Option Penalties → Option (List Near) → Option Reservation
-reservation_in (Some name) (Some need) (Some values) (Some p) (Some near) = Some (record {
+abbrev pub reservation_in : Option (List ℕ) → Option ℕ → Option (List Value) → Option Penalties → Option (List Near) → Result Protection RequestsWhy → Result Reservation RequestsWhy
+reservation_in (Some name) (Some need) (Some values) (Some p) (Some near) (Ok protection) = Ok (record {
   name = name;
   need = need;
   values = values;
@@ -86,15 +107,18 @@ reservation_in (Some name) (Some need) (Some values) (Some p) (Some near) = Some
   rack_limit = p.rack_limit;
   rack_weight = p.rack_weight;
   near = near;
+  protection = protection;
 })
-reservation_in (Some name) (Some need) (Some values) (Some p) None = None
-reservation_in (Some name) (Some need) (Some values) None near = None
-reservation_in (Some name) (Some need) None p near = None
-reservation_in (Some name) None values p near = None
-reservation_in None need values p near = None
+reservation_in (Some name) (Some need) (Some values) (Some p) (Some near) (Err w) = Err w
+reservation_in (Some name) (Some need) (Some values) (Some p) None protection = Err why.Shape
+reservation_in (Some name) (Some need) (Some values) None near protection = Err why.Shape
+reservation_in (Some name) (Some need) None p near protection = Err why.Shape
+reservation_in (Some name) None values p near protection = Err why.Shape
+reservation_in None need values p near protection = Err why.Shape
 
-abbrev pub reservation_of : Data → Option Reservation
-reservation_of d = if is_object_of reservation_members (as_object d)
+-- the reservation of an entry by a format, before its limits are tested: Err Shape where it has another shape, and else Err Range where its protection is unknown
+abbrev pub reservation_of : ℕ → Data → Result Reservation RequestsWhy
+reservation_of format d = if is_object_of reservation_members (as_object d)
     then reservation_in (option_and_then name_in (get (codes "name") d)) (needed_whole (codes "need") d) (option_and_then values_of (get (codes "values") d)) (penalties_of d)
-    (near_of (get (codes "near") d))
-    else None
+    (near_of (get (codes "near") d)) (protection_in format (get (codes "protection") d))
+    else Err why.Shape

@@ -1,13 +1,17 @@
-ghost use Rattle.std.specs.Prelude.{◌≡◌, true, IfOk, IfSome, map, option_map, option_and_then};
+ghost use Rattle.std.specs.Prelude.{◌≡◌, true, Some, IfOk, IfSome, map, option_map, option_and_then};
 ghost use Rattle.ras_table.specs.Names.{names_differ};
 ghost use Rattle.serde_json.specs.Find.{as_object};
 ghost use Rattle.ras_requests.specs.Members.{is_object_of};
 ghost use Rattle.serde_json.specs.View.{view, members_view};
 ghost use Rattle.ras_requests.specs.RequestsRule.{kind_names};
-ghost use Rattle.ras_requests.specs.Shapes.{moves_of, values_in, values_of, near_at, nears_in, near_of, penalties_of, reservation_members, reservation_of};
+ghost use Rattle.ras_table.specs.Answers.{Gives};
+ghost use Rattle.ras_requests.specs.Shapes.{moves_of, values_in, values_of, near_at, nears_in, near_of, penalties_of, protection_in, reservation_members, reservation_of};
 ghost use Rattle.ras_requests.specs.Drafts.{seen_costs, seen_values, seen_aim, seen_aims, seen_draft};
 
+use crate::fault::RequestsWhy;
 use crate::members::{is_object_of, name_in, needed_whole, optional_whole};
+use crate::protection::protection_of_text;
+use crate::requests::Protection;
 use ras_table::{Name, NameFault};
 use serde_json::{Map, Value as Json};
 use std::alloc::{AllocError, Global};
@@ -53,6 +57,7 @@ pub struct Draft {
     pub values: Vec<Units>,
     pub penalties: Penalties,
     pub near: Vec<Aim>,
+    pub protection: Protection,
 }
 
 /// The move costs.
@@ -168,6 +173,29 @@ fn penalties_of(value: &Json) -> Option<Penalties>
     })
 }
 
+// The protection of a reservation in a file of this format: Shape where the member is not what the format wants, and
+// Range where its text is unknown.
+fn protection_in(format: u64, found: Option<&Json>) -> Result<Protection, RequestsWhy>
+    ensures { result ≡ protection_in format (option_map (λ v. view v.now) found.entry) }
+{
+    if format == 1 {
+        return match found {
+            Some(_) => Err(RequestsWhy::Shape),
+            None => Ok(Protection::Board),
+        };
+    }
+    let Some(value) = found else {
+        return Err(RequestsWhy::Shape);
+    };
+    let Some(text) = value.as_str() else {
+        return Err(RequestsWhy::Shape);
+    };
+    match protection_of_text(text) {
+        Some(protection) => Ok(protection),
+        None => Err(RequestsWhy::Range),
+    }
+}
+
 // Whether a value is an object with no other members than a reservation's.
 fn is_reservation(value: &Json) -> bool
     ensures { result ≡ is_object_of reservation_members (as_object (view value.now)) }
@@ -184,38 +212,49 @@ fn is_reservation(value: &Json) -> bool
             "rack_limit",
             "rack_weight",
             "near",
+            "protection",
         ],
     )
 }
 
-/// A reservation, if it has the shape of one.
-pub fn draft_of(alloc: Global, value: &Json) -> Result<Option<Draft>, AllocError>
-    ensures draft { IfOk result (λ draft. option_map seen_draft draft ≡ reservation_of (view value.now)) }
-    ensures differ { IfOk result (λ draft. IfSome draft (λ d. names_differ (kind_names (seen_values d.values)) ≡ true)) }
+/// A reservation of a file of this format: Shape where it has another shape, and else Range where its protection is
+/// unknown.
+pub fn draft_of(
+    alloc: Global,
+    format: u64,
+    value: &Json,
+) -> Result<Result<Draft, RequestsWhy>, AllocError>
+    ensures draft { IfOk result (λ draft. Gives seen_draft (λ w. Some w) draft (reservation_of format (view value.now))) }
+    ensures differ { IfOk result (λ draft. IfOk draft (λ d. names_differ (kind_names (seen_values d.values)) ≡ true)) }
 {
     if !is_reservation(value) {
-        return Ok(None);
+        return Ok(Err(RequestsWhy::Shape));
     }
     let Some(name) = name_in(alloc, value.get("name"))? else {
-        return Ok(None);
+        return Ok(Err(RequestsWhy::Shape));
     };
     let Some(need) = needed_whole(value, "need") else {
-        return Ok(None);
+        return Ok(Err(RequestsWhy::Shape));
     };
     let Some(values) = values_in(alloc, value.get("values"))? else {
-        return Ok(None);
+        return Ok(Err(RequestsWhy::Shape));
     };
     let Some(penalties) = penalties_of(value) else {
-        return Ok(None);
+        return Ok(Err(RequestsWhy::Shape));
     };
     let Some(near) = aims_in(alloc, value.get("near"))? else {
-        return Ok(None);
+        return Ok(Err(RequestsWhy::Shape));
     };
-    Ok(Some(Draft {
+    let protection = match protection_in(format, value.get("protection")) {
+        Ok(protection) => protection,
+        Err(why) => return Ok(Err(why)),
+    };
+    Ok(Ok(Draft {
         name,
         need,
         values,
         penalties,
         near,
+        protection,
     }))
 }

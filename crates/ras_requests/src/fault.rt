@@ -10,10 +10,10 @@ pub enum RequestsWhy {
     /// A part has another shape, or a number is no whole number.
     #[error("shape")]
     Shape,
-    /// The format is not 1.
+    /// The format is neither 1 nor 2.
     #[error("format")]
     Format,
-    /// A number is too large.
+    /// A number is too large, or a protection is none of the three texts.
     #[error("range")]
     Range,
     /// The name stood before, or a datacenter stands twice in `near`.

@@ -174,5 +174,6 @@ pub fn reservation_from(alloc: Global, draft: &Draft) -> Result<Reservation, All
         rack_limit: p.rack_limit as u32,
         rack_weight: p.rack_weight as u32,
         near: near_from(alloc, draft.near.as_slice())?,
+        protection: draft.protection,
     })
 }

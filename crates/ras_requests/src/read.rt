@@ -57,11 +57,11 @@ fn costs_in(value: &Json) -> Option<Costs>
     }
 }
 
-// The move costs and the entries, or the first fault of the whole.
-fn top_of(value: &Json) -> Result<(Moves, &Vec<Json>), RequestsWhy>
-    ensures top { Gives (λ p. (p.0, map view p.1.now.items)) (λ w. Some w) result (top_of (view value.now)) }
-    ensures few { IfOk result (λ p. length p.1.now.items ≤ 64) }
-    ensures range { IfOk result (λ p. moves_in_range p.0 ≡ true) }
+// The format, the move costs and the entries, or the first fault of the whole.
+fn top_of(value: &Json) -> Result<(u64, Moves, &Vec<Json>), RequestsWhy>
+    ensures top { Gives (λ p. (p.0, p.1, map view p.2.now.items)) (λ w. Some w) result (top_of (view value.now)) }
+    ensures few { IfOk result (λ p. length p.2.now.items ≤ 64) }
+    ensures range { IfOk result (λ p. moves_in_range p.1 ≡ true) }
 {
     if !is_object_of(value, &["format", "moves", "reservations"]) {
         return Err(RequestsWhy::Shape);
@@ -75,36 +75,32 @@ fn top_of(value: &Json) -> Result<(Moves, &Vec<Json>), RequestsWhy>
     let Some(entries) = entries_in(value) else {
         return Err(RequestsWhy::Shape);
     };
-    if format != 1 {
+    if format != 1 && format != 2 {
         Err(RequestsWhy::Format)
     } else if !moves_in_range(costs) {
         Err(RequestsWhy::Range)
     } else if entries.len() > 64 {
         Err(RequestsWhy::Many)
     } else {
-        Ok((moves_from(costs), entries))
+        Ok((format, moves_from(costs), entries))
     }
 }
 
 // The reservation of an entry, or its first fault.
 fn reservation_at(
     alloc: Global,
+    format: u64,
     place: u32,
     before: &[Reservation],
     value: &Json,
 ) -> Result<Reservation, RequestsFault>
-    ensures reservation { Gives (λ r. r) told result (reservation_at place before.now (view value.now)) }
+    ensures reservation { Gives (λ r. r) told result (reservation_at format place before.now (view value.now)) }
     ensures rule { IfOk result (λ r. reservation_rule r ≡ true) }
     ensures fresh { IfOk result (λ r. stands_before before.now r ≡ false) }
 {
-    let draft = match draft_of(alloc, value) {
-        Ok(Some(draft)) => draft,
-        Ok(None) => {
-            return Err(RequestsFault::At {
-                place,
-                why: RequestsWhy::Shape,
-            });
-        }
+    let draft = match draft_of(alloc, format, value) {
+        Ok(Ok(draft)) => draft,
+        Ok(Err(why)) => return Err(RequestsFault::At { place, why }),
         Err(_) => return Err(RequestsFault::Memory),
     };
     match first_fault(before, &draft) {
@@ -117,9 +113,13 @@ fn reservation_at(
 }
 
 // The reservations of these entries, or the first fault.
-fn reservations_of(alloc: Global, entries: &[Json]) -> Result<List<Reservation>, RequestsFault>
+fn reservations_of(
+    alloc: Global,
+    format: u64,
+    entries: &[Json],
+) -> Result<List<Reservation>, RequestsFault>
     requires { length entries.now ≤ 64 }
-    ensures list { Gives (λ list. list) told result (reservations_from 1 [] (map view entries.now)) }
+    ensures list { Gives (λ list. list) told result (reservations_from format 1 [] (map view entries.now)) }
     ensures rule { IfOk result (λ list. AreReservations list) }
     ensures few { IfOk result (λ list. length list ≤ 64) }
 {
@@ -128,7 +128,7 @@ fn reservations_of(alloc: Global, entries: &[Json]) -> Result<List<Reservation>,
     };
     for i in 0..entries.len() {
         let place = i as u32 + 1;
-        let reservation = match reservation_at(alloc, place, list.as_slice(), &entries[i]) {
+        let reservation = match reservation_at(alloc, format, place, list.as_slice(), &entries[i]) {
             Ok(reservation) => reservation,
             Err(fault) => return Err(fault),
         };
@@ -154,11 +154,11 @@ pub fn read_requests(alloc: Global, bytes: &[u8]) -> Result<Requests, RequestsFa
         Ok(value) => value,
         Err(fault) => return Err(fault),
     };
-    let (moves, entries) = match top_of(&value) {
+    let (format, moves, entries) = match top_of(&value) {
         Ok(top) => top,
         Err(why) => return Err(RequestsFault::At { place: 0, why }),
     };
-    match reservations_of(alloc, entries.as_slice()) {
+    match reservations_of(alloc, format, entries.as_slice()) {
         Ok(list) => Ok(Requests { moves, list }),
         Err(fault) => Err(fault),
     }

@@ -31,12 +31,23 @@ pub struct Near {
     pub weight: u32,
 }
 
+/// What a reservation has to survive.
+#[derive(Clone, Copy, Debug, PartialEq, Eq)]
+pub enum Protection {
+    /// Nothing.
+    Total,
+    /// The loss of any one switchboard.
+    Board,
+    /// The loss of any one datacenter.
+    Center,
+}
+
 /// A reservation of the requests.
 #[derive(Debug, Drop)]
 pub struct Reservation {
     /// The name, which no other reservation of the requests has.
     pub name: Name,
-    /// The units that are needed, also when any one switchboard is lost, 0 to 10,000,000.
+    /// The units that are needed, also after any one loss that the protection names, 0 to 10,000,000.
     pub need: u32,
     /// The values of types, at most 1,000, each type once. Another type is worth nothing.
     pub values: List<Value>,
@@ -52,4 +63,6 @@ pub struct Reservation {
     pub rack_weight: u32,
     /// The wishes for units in datacenters, at most 16.
     pub near: List<Near>,
+    /// What it has to survive.
+    pub protection: Protection,
 }

@@ -1,4 +1,4 @@
-use crate::read_requests;
+use crate::{protection_text, read_requests};
 use std::alloc::{AllocError, Global};
 use std::test::Fail;
 
@@ -30,9 +30,9 @@ fn faults_of_the_whole(rt: HostRuntime) -> Result<(), Fail> {
             r#"{"format":1.0,MOVES,"reservations":[]}"#,
             "place 0: shape",
         ),
-        (r#"{"format":2,MOVES,"reservations":[]}"#, "place 0: format"),
+        (r#"{"format":3,MOVES,"reservations":[]}"#, "place 0: format"),
         (
-            r#"{"format":2,"moves":{"take":10001,"idle":5,"busy":50},"reservations":[]}"#,
+            r#"{"format":3,"moves":{"take":10001,"idle":5,"busy":50},"reservations":[]}"#,
             "place 0: format",
         ),
         (
@@ -109,6 +109,61 @@ fn faults_of_reservations(rt: HostRuntime) -> Result<(), Fail> {
             "\u{FEFF}{{\"format\":1,\"moves\":{{\"take\":1,\"idle\":5,\"busy\":50}},\"reservations\":[{list}]}}"
         )?;
         let told = requests(rt.alloc(), text.as_bytes())?;
+        assert!(rt; told.as_str() == want, "{text}: {told}");
+    }
+    Ok(())
+}
+
+// The protections of requests with these bytes, or their fault.
+fn protections(alloc: Global, bytes: &[u8]) -> Result<String, AllocError> {
+    if bytes.len() > 20_000 {
+        return format!(in alloc; "long");
+    }
+    let requests = match read_requests(alloc, bytes) {
+        Ok(requests) => requests,
+        Err(fault) => return format!(in alloc; "{fault}"),
+    };
+    let mut told = String::new(alloc);
+    for reservation in requests.list.as_slice() {
+        told.push_str(protection_text(reservation.protection))?;
+        told.push_str(" ")?;
+    }
+    Ok(told)
+}
+
+#[test]
+fn protections_by_format(rt: HostRuntime) -> Result<(), Fail> {
+    let cases = [
+        (1, r#"{"name":"a",REST}"#, "switchboard "),
+        (
+            1,
+            r#"{"name":"a",REST,"protection":"switchboard"}"#,
+            "place 1: shape",
+        ),
+        (
+            2,
+            r#"{"name":"a",REST,"protection":"none"},{"name":"b",REST,"protection":"switchboard"},{"name":"c",REST,"protection":"datacenter"}"#,
+            "none switchboard datacenter ",
+        ),
+        (2, r#"{"name":"a",REST}"#, "place 1: shape"),
+        (2, r#"{"name":"a",REST,"protection":1}"#, "place 1: shape"),
+        (
+            2,
+            r#"{"name":"a",REST,"protection":"rack"}"#,
+            "place 1: range",
+        ),
+        (
+            2,
+            r#"{"name":"a",REST,"protection":"rack","x":1}"#,
+            "place 1: shape",
+        ),
+    ];
+    for (format, list, want) in cases {
+        let list = list.replace(rt.alloc(), "REST", r#""need":1,"values":{"t":1}"#)?;
+        let text = format!(in rt.alloc();
+            "{{\"format\":{format},\"moves\":{{\"take\":1,\"idle\":5,\"busy\":50}},\"reservations\":[{list}]}}"
+        )?;
+        let told = protections(rt.alloc(), text.as_bytes())?;
         assert!(rt; told.as_str() == want, "{text}: {told}");
     }
     Ok(())
