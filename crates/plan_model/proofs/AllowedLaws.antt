@@ -1,16 +1,20 @@
 -- What an allowed assignment gives each reservation.
 use Rattle.std.proofs.Common.{◌≡◌, ℕ, zero, suc, set, ◌≤◌, ◌==◌, ◌+◌, ◌<◌, Bool, true, false, cond, List, [], ◌∷◌, get_or, length, arith, ap, sym, ◌∙◌, refl, zero-add}
-use Rattle.std.specs.Prelude.{◌&&◌, nat_le, nat_lt, not, is_some, position, Option, Some, None, option_map, IsTrue, sum_by, zip}
+use Rattle.std.specs.Prelude.{◌&&◌, nat_le, nat_lt, not, is_some, position, Option, Some, None, IsTrue, sum_by, zip, filter, map, ◌-◌}
 use Rattle.std.specs.List.{list_all, range_with_len, prefix_len}
 use Rattle.std.proofs.lemmas.Bool.Decides.{nat_tests}
+use Rattle.std.proofs.lemmas.List.Folds.{list_all-map}
 use Rattle.std.proofs.lemmas.List.FromFn.{length-range_with_len, get_or-range_with_len}
-use Rattle.plan_model.specs.Units.{want_of, units, share_of, servers_with_places, place_of, no_place}
-use Rattle.plan_model.specs.Allowed.{keeps_need, survives_loss, survives_each_loss, fits, first_board_lost, first_loss}
+use Rattle.plan_model.specs.Units.{want_of, units, units_where, share_of, servers_with_places, place_of, no_place}
+use Rattle.plan_model.specs.Allowed.{keeps_need, survives, fits, first_lost, first_loss}
+use Rattle.plan_model.specs.Losses.{is_lost, losses_named, loss_at, named_losses, losses}
+use Rattle.plan_model.specs.declared.losses.Lost.{Lost}
+use Rattle.plan_model.specs.declared.losses.Lost.TheVariants.{Total}
+use Rattle.ras_requests.specs.declared.requests.Protection.{Protection}
 use Rattle.plan_model.specs.declared.cases.Case.{Case}
 use Rattle.plan_model.specs.declared.cases.Assignment.{Assignment}
-use Rattle.plan_model.specs.Laws.{AllowedSurvivesLosses, TakingAwayNeverRaises, NoBoardsNoNeed, without_server}
+use Rattle.plan_model.specs.Laws.{AllowedSurvivesLosses, TakingAwayNeverRaises, NoServersNoNeed, without_server}
 use Rattle.plan_model.specs.declared.cases.Place.{Place}
-use Rattle.plan_model.specs.CaseRule.{place_in_range}
 use Rattle.plan_model.proofs.SumLemmas.{length-fits, sum_by-filter}
 use Rattle.std.proofs.lemmas.List.Sums.{sum_by-set}
 use Rattle.std.proofs.lemmas.Slice.Zip.{length-zip}
@@ -23,11 +27,59 @@ list_all-range_at test n i all within =
     let inside : i < length (range_with_len 0 n) = omega (arith, length-range_with_len 0 n) in
     sym (ap test at) ∙ list_all-at test (range_with_len 0 n) i 0 inside all
 
+-- where nothing is lost, what is lost is nothing
+nothing-lost : (f : Place × Option ℕ → ℕ) (xs : List (Place × Option ℕ)) → sum_by f (filter (λ s. is_lost Total s.0) xs) ≡ 0
+nothing-lost f [] = refl
+nothing-lost f (x ∷ xs) = nothing-lost f xs
+
+pub lost-nothing : (case : Case) (a : Assignment) (r : ℕ) (lost : Lost) → lost ≡ Total → 0 ≡ units_where (is_lost lost) case a r
+lost-nothing case a r lost e =
+    sym (ap (λ l. units_where (is_lost l) case a r) e ∙ nothing-lost (share_of case r) (servers_with_places case a))
+
+pub survives-total : (case : Case) (a : Assignment) (r : ℕ) → survives case a r Total ≡ nat_le (want_of case r).need (units case a r)
+survives-total case a r =
+    let all : units case a r - 0 ≡ units case a r = omega arith in
+    ap (λ n. nat_le (want_of case r).need (units case a r - n)) (nothing-lost (share_of case r) (servers_with_places case a)) ∙ ap (nat_le (want_of case r).need) all
+
+-- a reservation that keeps its need survives each loss that its protection names
+pub keeps-survives : (case : Case) (a : Assignment) (r number : ℕ) → keeps_need case a r ≡ true → number < losses_named case (want_of case r).protection
+    → survives case a r (loss_at (want_of case r).protection number) ≡ true
+keeps-survives case a r number keeps within =
+    let p = (want_of case r).protection in
+    let named : list_all (survives case a r) (map (loss_at p) (range_with_len 0 (losses_named case p))) ≡ true = and-right (survives case a r Total) _ keeps in
+    list_all-range_at (λ n. survives case a r (loss_at p n)) (losses_named case p) number
+    (sym (list_all-map (survives case a r) (loss_at p) (range_with_len 0 (losses_named case p))) ∙ named) within
+
+pub keeps-total : (case : Case) (a : Assignment) (r : ℕ) → keeps_need case a r ≡ true → nat_le (want_of case r).need (units case a r) ≡ true
+keeps-total case a r keeps = sym (survives-total case a r) ∙ and-left (survives case a r Total) (list_all (survives case a r) (named_losses case r)) keeps
+
+and-both : (a b : Bool) → a ≡ true → b ≡ true → (a && b) ≡ true
+and-both true b e h = h
+and-both false b e h = e
+
+all-range : (test : ℕ → Bool) (a n : ℕ) → ((i : ℕ) → a ≤ i → i < a + n → test i ≡ true) → list_all test (range_with_len a n) ≡ true
+all-range test a zero each = refl
+all-range test a (suc n) each =
+    and-both (test a) (list_all test (range_with_len (a + 1) n)) (each a (omega arith) (omega arith)) (all-range test (a + 1) n (λ i low high. each i (omega arith) (omega arith)))
+
+-- and one that has enough and survives each loss that its protection names keeps its need
+pub keeps-from : (case : Case) (a : Assignment) (r : ℕ) → (want_of case r).need ≤ units case a r
+    → ((number : ℕ) → number < losses_named case (want_of case r).protection
+    → (want_of case r).need ≤ units case a r - units_where (is_lost (loss_at (want_of case r).protection number)) case a r)
+    → keeps_need case a r ≡ true
+keeps-from case a r enough each =
+    let p = (want_of case r).protection in
+    let total : nat_le (want_of case r).need (units case a r) ≡ true = grind (arith, nat_tests, enough) in
+    and-both (survives case a r Total) (list_all (survives case a r) (named_losses case r)) (survives-total case a r ∙ total)
+    (list_all-map (survives case a r) (loss_at p) (range_with_len 0 (losses_named case p))
+    ∙ all-range (λ number. survives case a r (loss_at p number)) 0 (losses_named case p)
+    (λ number low high. let left = each number (omega arith) in grind (arith, nat_tests, left)))
+
 pub allowed-survives : AllowedSurvivesLosses
-allowed-survives case a r board allowed within there =
+allowed-survives case a r number allowed within there =
     let keeps : keeps_need case a r ≡ true = list_all-range_at (keeps_need case a) (length case.wants) r (and-right _ _ allowed) within in
-    let total : nat_le (want_of case r).need (units case a r) ≡ true = and-left _ _ keeps in
-    let loss : survives_loss case a r board ≡ true = list_all-range_at (survives_loss case a r) case.boards board (and-right _ _ keeps) there in
+    let total : nat_le (want_of case r).need (units case a r) ≡ true = keeps-total case a r keeps in
+    let loss : survives case a r (loss_at (want_of case r).protection number) ≡ true = keeps-survives case a r number keeps there in
     (grind (arith, nat_tests, total), grind (arith, nat_tests, loss))
 
 is_some-cond : (b : Bool) (n : ℕ) → is_some (cond b (Some n) None) ≡ b
@@ -49,16 +101,46 @@ list_all-position test xs =
     list_all-prefix test xs
     ∙ ap not (sym (is_some-cond (nat_lt (prefix_len (λ x. not (not (test x))) xs) (length xs)) (prefix_len (λ x. not (not (test x))) xs)))
 
-first-or_total : (enough : Bool) (lost : Option ℕ) → (enough && not (is_some lost)) ≡ not (is_some (cond enough (option_map (λ board. Some board) lost) (Some None)))
-first-or_total true None = refl
-first-or_total true (Some board) = refl
-first-or_total false lost = refl
+one-lost : (b all : Bool) (lost : Lost) (rest : Option Lost) → all ≡ not (is_some rest) → (b && all) ≡ not (is_some (cond b rest (Some lost)))
+one-lost true all lost rest h = h
+one-lost false all lost rest h = refl
+
+-- every loss is survived exactly where none is the first that is not
+pub all-no_loss : (case : Case) (a : Assignment) (r : ℕ) (ls : List Lost) → list_all (survives case a r) ls ≡ not (is_some (first_lost case a r ls))
+all-no_loss case a r [] = refl
+all-no_loss case a r (lost ∷ ls) = one-lost (survives case a r lost) (list_all (survives case a r) ls) lost (first_lost case a r ls) (all-no_loss case a r ls)
 
 -- a reservation keeps its need exactly where there is no first loss
 pub keeps-no_loss : (case : Case) (a : Assignment) (r : ℕ) → keeps_need case a r ≡ not (is_some (first_loss case a r))
-keeps-no_loss case a r =
-    ap (λ b. nat_le (want_of case r).need (units case a r) && b) (list_all-position (survives_loss case a r) (range_with_len 0 case.boards))
-    ∙ first-or_total (nat_le (want_of case r).need (units case a r)) (first_board_lost case a r)
+keeps-no_loss case a r = all-no_loss case a r (losses case r)
+
+-- the first loss is that of nothing where the units are too few, and else one of those that are named
+pub first-total : (case : Case) (a : Assignment) (r : ℕ) → units case a r < (want_of case r).need → first_loss case a r ≡ Some Total
+first-total case a r few =
+    let total : nat_le (want_of case r).need (units case a r) ≡ false = grind (arith, nat_tests, few) in
+    ap (λ b. cond b (first_lost case a r (named_losses case r)) (Some Total)) (survives-total case a r ∙ total)
+
+pub first-named : (case : Case) (a : Assignment) (r : ℕ) → (want_of case r).need ≤ units case a r → first_loss case a r ≡ first_lost case a r (named_losses case r)
+first-named case a r enough =
+    let total : nat_le (want_of case r).need (units case a r) ≡ true = grind (arith, nat_tests, enough) in
+    ap (λ b. cond b (first_lost case a r (named_losses case r)) (Some Total)) (survives-total case a r ∙ total)
+
+-- what is left after a loss, as it is computed
+pub loss-fails : (case : Case) (a : Assignment) (r : ℕ) (lost : Lost) (need all gone : ℕ) → need ≡ (want_of case r).need → all ≡ units case a r
+    → gone ≡ units_where (is_lost lost) case a r → all - gone < need → survives case a r lost ≡ false
+loss-fails case a r lost need all gone n u g h = grind (arith, nat_tests, n, u, g, h)
+
+pub loss-passes : (case : Case) (a : Assignment) (r : ℕ) (lost : Lost) (need all gone : ℕ) → need ≡ (want_of case r).need → all ≡ units case a r
+    → gone ≡ units_where (is_lost lost) case a r → need ≤ all - gone → survives case a r lost ≡ true
+loss-passes case a r lost need all gone n u g h = grind (arith, nat_tests, n, u, g, h)
+
+-- the losses from a number on
+pub lost-from : (case : Case) (a : Assignment) (r : ℕ) (p : Protection) (number count : ℕ) → number < count
+    → first_lost case a r (map (loss_at p) (range_with_len number (count - number)))
+    ≡ cond (survives case a r (loss_at p number)) (first_lost case a r (map (loss_at p) (range_with_len (number + 1) (count - (number + 1))))) (Some (loss_at p number))
+lost-from case a r p number count within =
+    let one : count - number ≡ suc (count - (number + 1)) = omega arith in
+    ap (λ n. first_lost case a r (map (loss_at p) (range_with_len number n))) one
 
 -- a list side by side with one of which an element changes
 zip-set : {X Y : Type 0} (xs : List X) (ys : List Y) (i : ℕ) (y : Y) (d : X) → i < length xs → zip xs (set ys i y) ≡ set (zip xs ys) i (get_or xs i d, y)
@@ -90,18 +172,8 @@ taking-away case a s r board fitting within =
       omega (arith, here, there, sum-without case a (λ t. cond (t.0.board == board) (share_of case r t) 0) s fitting within (nothing-counts (place_of case s).board board)),
     )
 
-no-places : (kinds racks boards centers reservations : ℕ) (places : List Place) → boards ≡ 0
-    → list_all (place_in_range kinds racks boards centers reservations) places ≡ true → places ≡ []
-no-places kinds racks boards centers reservations [] none all = refl
-no-places kinds racks boards centers reservations (s ∷ places) none all =
-    let here : nat_lt s.board boards ≡ true = and-right _ _ (and-left _ _ (and-left _ _ (and-left _ _ all))) in
-    let below : s.board < boards = grind (arith, nat_tests, here) in
-    absurd (omega (arith, below, none))
-
-pub no-boards : NoBoardsNoNeed
-no-boards case a r none needed =
-    let ranges : list_all (place_in_range case.kinds case.racks case.boards case.centers (length case.wants)) case.places ≡ true = and-right _ _ (and-left _ _ (and-left _ _ case.kept)) in
-    let empty : case.places ≡ [] = no-places case.kinds case.racks case.boards case.centers (length case.wants) case.places none ranges in
-    let nothing : units case a r ≡ 0 = ap (λ ps. sum_by (share_of case r) (zip ps a.of)) empty in
+pub no-servers : NoServersNoNeed
+no-servers case a r none needed =
+    let nothing : units case a r ≡ 0 = ap (λ ps. sum_by (share_of case r) (zip ps a.of)) none in
     let few : nat_le (want_of case r).need (units case a r) ≡ false = grind (arith, nat_tests, nothing, needed) in
-    ap (λ b. b && survives_each_loss case a r) few
+    ap (λ b. b && list_all (survives case a r) (named_losses case r)) (survives-total case a r ∙ few)

@@ -40,9 +40,12 @@ want-limits case r within =
 pub near-in_range : (case : Case) (r : ℕ) → r < length case.wants → list_all (goal_in_range case.centers) (want_of case r).near ≡ true
 near-in_range case r within = and-right _ _ (want-in_range case r within)
 
--- a case has at most 64 switchboards and at most 64 reservations
+-- a case has at most 64 switchboards, 64 datacenters and 64 reservations
 pub few-boards : (case : Case) → case.boards ≤ 64
 few-boards case = grind (arith, nat_tests, case.kept)
+
+pub few-centers : (case : Case) → case.centers ≤ 64
+few-centers case = grind (arith, nat_tests, case.kept)
 
 pub few-wants : (case : Case) → length case.wants ≤ 64
 few-wants case = grind (arith, nat_tests, case.kept)

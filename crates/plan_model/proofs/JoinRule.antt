@@ -104,10 +104,13 @@ module _ (region : Region) (requests : Requests) (bindings : Bindings) where
   servers-stand = and-right _ _ (and-left _ _ region.kept)
 
   few-servers : nat_le (length region.servers) 20000 ≡ true
-  few-servers = and-left _ _ (and-left _ _ (and-left _ _ (and-left _ _ region.kept)))
+  few-servers = and-left _ _ (and-left _ _ (and-left _ _ (and-left _ _ (and-left _ _ region.kept))))
 
   few-boards : nat_le (length region.boards) 64 ≡ true
-  few-boards = and-right _ _ (and-left _ _ (and-left _ _ (and-left _ _ region.kept)))
+  few-boards = and-right _ _ (and-left _ _ (and-left _ _ (and-left _ _ (and-left _ _ region.kept))))
+
+  few-centers : nat_le (length region.centers) 64 ≡ true
+  few-centers = and-right _ _ (and-left _ _ (and-left _ _ (and-left _ _ region.kept)))
 
   moves-small : moves_in_range requests.moves ≡ true
   moves-small = and-left _ _ (and-left _ _ (and-left _ _ requests.kept))
@@ -158,7 +161,9 @@ module _ (region : Region) (requests : Requests) (bindings : Bindings) where
       (both _ _
       (both _ _
       (both _ _
-      (both _ _ (both _ _ (both _ _ few-placed (ap (λ n. nat_le n 64) many ∙ few-reservations)) few-boards) (and-left _ _ (and-left _ _ moves-small)))
+      (both _ _
+      (both _ _ (both _ _ (both _ _ few-placed (ap (λ n. nat_le n 64) many ∙ few-reservations)) few-boards) few-centers)
+      (and-left _ _ (and-left _ _ moves-small)))
       (and-right _ _ (and-left _ _ moves-small)))
       (and-right _ _ moves-small))
       (places-in (length (map (joined_want region.types region.centers) requests.list)) (sym many)))

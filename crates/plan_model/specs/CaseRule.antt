@@ -45,7 +45,7 @@ want_in_range kinds centers want =
 abbrev pub case_rule : List Place → ℕ → ℕ → ℕ → ℕ → Moves → List Want → Bool
 case_rule places kinds racks boards centers moves wants =
     nat_le (length places) 20000 && nat_le (length wants) 64
-    && nat_le boards 64
+    && nat_le boards 64 && nat_le centers 64
     && is_weight moves.take && is_weight moves.idle && is_weight moves.busy
     && list_all (place_in_range kinds racks boards centers (length wants)) places
     && list_all (λ s. list_all (stand_together s) places) places

@@ -5,6 +5,7 @@ use Rattle.plan_model.specs.declared.cases.Holder.TheVariants.{Free, Held}
 use Rattle.plan_model.specs.declared.cases.Place.{Place}
 use Rattle.plan_model.specs.declared.cases.Want.{Want}
 use Rattle.ras_requests.specs.declared.requests.Moves.{Moves}
+use Rattle.ras_requests.specs.declared.requests.Protection.TheVariants.{Board}
 use Rattle.plan_model.specs.declared.cases.Case.{Case}
 use Rattle.plan_model.specs.declared.cases.Assignment.{Assignment}
 
@@ -26,6 +27,7 @@ plain_want need value = record {
   rack_limit = 0;
   rack_weight = 0;
   near = [];
+  protection = Board;
 }
 
 -- six free servers, two on each of three switchboards, and one reservation of need 40 and value 10

@@ -56,6 +56,7 @@ joined_want types centers r = record {
   rack_limit = r.rack_limit;
   rack_weight = r.rack_weight;
   near = map (joined_goal centers) r.near;
+  protection = r.protection;
 }
 
 -- a case is that of a region, requests and bindings

@@ -6,16 +6,19 @@ use Rattle.ras_inventory.specs.declared.region.Region.{Region}
 use Rattle.ras_inventory.specs.declared.bindings.Bindings.{Bindings}
 use Rattle.ras_requests.specs.declared.all.Requests.{Requests}
 use Rattle.plan_model.specs.Joined.{IsJoined}
-use Rattle.plan_model.specs.Units.{want_of, units, units_on_board}
+use Rattle.plan_model.specs.Units.{want_of, units, units_where, units_on_board}
+use Rattle.plan_model.specs.Losses.{is_lost, losses_named, loss_at}
 use Rattle.plan_model.specs.Allowed.{fits, keeps_need, region_allowed}
 use Rattle.plan_model.specs.Costs.{region_cost, rack_excess, rack_cost}
 use Rattle.plan_model.specs.Examples.{six, all_six, five_of_six, four, four_plan, eight, two_racks, four_racks}
 
--- an allowed assignment gives each reservation what it needs, also without any one switchboard
+-- an allowed assignment gives each reservation what it needs, also after any one loss that its protection names
 abbrev pub AllowedSurvivesLosses : Type 0
 AllowedSurvivesLosses =
-    (case : Case) (a : Assignment) (r board : ℕ) → region_allowed case a ≡ true → r < length case.wants → board < case.boards
-    → ((want_of case r).need ≤ units case a r) × ((want_of case r).need ≤ units case a r - units_on_board case a r board)
+    (case : Case) (a : Assignment) (r number : ℕ) → region_allowed case a ≡ true → r < length case.wants
+    → number < losses_named case (want_of case r).protection
+    → ((want_of case r).need ≤ units case a r)
+    × ((want_of case r).need ≤ units case a r - units_where (is_lost (loss_at (want_of case r).protection number)) case a r)
 
 -- an assignment without what one server gets
 abbrev pub without_server : Assignment → ℕ → Assignment
@@ -28,9 +31,9 @@ TakingAwayNeverRaises =
     (case : Case) (a : Assignment) (s r board : ℕ) → fits case a ≡ true → s < length case.places
     → (units case (without_server a s) r ≤ units case a r) × (units_on_board case (without_server a s) r board ≤ units_on_board case a r board)
 
--- a region without switchboards keeps no need above 0
-abbrev pub NoBoardsNoNeed : Type 0
-NoBoardsNoNeed = (case : Case) (a : Assignment) (r : ℕ) → case.boards ≡ 0 → 0 < (want_of case r).need → keeps_need case a r ≡ false
+-- a region without servers keeps no need above 0
+abbrev pub NoServersNoNeed : Type 0
+NoServersNoNeed = (case : Case) (a : Assignment) (r : ℕ) → case.places ≡ [] → 0 < (want_of case r).need → keeps_need case a r ≡ false
 
 -- there is one case that a region, requests and bindings join to
 abbrev pub JoinsToOneCase : Type 0

@@ -5,6 +5,7 @@ pub mod Allowed
 pub mod Costs
 pub mod Rack
 pub mod Levels
+pub mod Losses
 pub mod Chosen
 pub mod Joined
 pub mod Examples

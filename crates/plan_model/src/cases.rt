@@ -1,7 +1,7 @@
 ghost use Rattle.std.specs.Prelude.{IsTrue};
 ghost use Rattle.plan_model.specs.CaseRule.{case_rule};
 
-use ras_requests::Moves;
+use ras_requests::{Moves, Protection};
 use ras_table::List;
 
 /// Who holds a server.
@@ -48,7 +48,7 @@ pub struct Goal {
 /// A reservation.
 #[derive(Debug, Drop)]
 pub struct Want {
-    /// The units that are needed, also when any one switchboard is lost, 0 to 10,000,000.
+    /// The units that are needed, also after any one loss that the protection names, 0 to 10,000,000.
     pub need: u32,
     /// The units of one server of each type, 0 to 1,000, by the number of the type.
     pub values: List<u32>,
@@ -64,6 +64,8 @@ pub struct Want {
     pub rack_weight: u32,
     /// The wishes for units in datacenters, at most 16.
     pub near: List<Goal>,
+    /// What it has to survive.
+    pub protection: Protection,
 }
 
 /// What a plan is made for: at most 20,000 servers, 64 switchboards and 64 reservations. Each number of a type, rack,

@@ -113,7 +113,7 @@ fn shortage(case: &Case, a: &Assignment, r: u32, goal: &Goal) -> u64
 }
 
 /// The reservation of that number, within its limits.
-fn want_at(case: &Case, r: u32) -> &Want
+pub(crate) fn want_at(case: &Case, r: u32) -> &Want
     requires { r < length case.now.wants }
     ensures want { result.now ≡ want_of case.now r }
     ensures limits { WantLimits result.now }

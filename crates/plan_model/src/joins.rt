@@ -124,6 +124,7 @@ fn want_of(alloc: Global, region: &Region, r: &Reservation) -> Result<Want, Allo
         rack_limit: r.rack_limit,
         rack_weight: r.rack_weight,
         near: goals_of(alloc, &region.centers, &r.near)?,
+        protection: r.protection,
     })
 }
 

@@ -1,6 +1,6 @@
-ghost use Rattle.plan_model.specs.Laws.{AllowedSurvivesLosses, TakingAwayNeverRaises, NoBoardsNoNeed, JoinsToOneCase, SixServers, FiveServers, OneSwap, RacksEvenedOut};
+ghost use Rattle.plan_model.specs.Laws.{AllowedSurvivesLosses, TakingAwayNeverRaises, NoServersNoNeed, JoinsToOneCase, SixServers, FiveServers, OneSwap, RacksEvenedOut};
 
-/// An allowed assignment gives each reservation what it needs, also after the loss of any one switchboard.
+/// An allowed assignment gives each reservation what it needs, also after any one loss that its protection names.
 pub fn allowed_survives_losses()
     ensures { AllowedSurvivesLosses }
 {}
@@ -10,9 +10,9 @@ pub fn taking_away_never_raises()
     ensures { TakingAwayNeverRaises }
 {}
 
-/// A region without switchboards keeps no need above 0.
-pub fn no_boards_no_need()
-    ensures { NoBoardsNoNeed }
+/// A region without servers keeps no need above 0.
+pub fn no_servers_no_need()
+    ensures { NoServersNoNeed }
 {}
 
 /// There is one case that a region, requests and bindings join to.

@@ -8,6 +8,7 @@ mod costs;
 mod joins;
 mod laws;
 mod levels;
+mod losses;
 mod plans;
 mod sums;
 mod tables;
@@ -18,9 +19,10 @@ pub use copies::{copy_assignment, copy_case};
 pub use costs::{move_cost, rack_cost, rack_excess, region_cost, terms};
 pub use joins::join;
 pub use laws::{
-    allowed_survives_losses, five_servers, joins_to_one_case, no_boards_no_need, one_swap,
+    allowed_survives_losses, five_servers, joins_to_one_case, no_servers_no_need, one_swap,
     racks_evened_out, six_servers, taking_away_never_raises,
 };
+pub use losses::{Lost, is_lost, loss_at, losses_named};
 pub use plans::free_plan;
 pub use sums::{units, units_in_center, units_on_board, units_on_rack};
 

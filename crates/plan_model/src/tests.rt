@@ -3,10 +3,10 @@ ghost use Rattle.plan_model.specs.Examples.{server, plain_want};
 ghost use Rattle.plan_model.specs.declared.cases.Holder.TheVariants.{Free};
 
 use crate::{
-    Assignment, Case, Holder, Place, Want, first_loss, first_not_served, fits, free_plan,
+    Assignment, Case, Holder, Lost, Place, Want, first_loss, first_not_served, fits, free_plan,
     keeps_need, rack_excess, region_cost, units_on_board,
 };
-use ras_requests::Moves;
+use ras_requests::{Moves, Protection};
 use ras_table::List;
 use std::alloc::{AllocError, Global};
 use std::test::Fail;
@@ -39,6 +39,7 @@ fn want(alloc: Global) -> Result<Want, AllocError>
         rack_limit: 10,
         rack_weight: 3,
         near: List::new(alloc, 0)?,
+        protection: Protection::Board,
     })
 }
 
@@ -88,7 +89,7 @@ fn six_servers(rt: HostRuntime) -> Result<(), Fail> {
     assert!(rt; case.wants.len() == 1);
     assert!(rt; case.boards == 3);
     assert!(rt; keeps_need(&case, &all, 0));
-    assert_eq!(rt; first_loss(&case, &none, 0), Some(None));
+    assert_eq!(rt; first_loss(&case, &none, 0), Some(Lost::Total));
     assert_eq!(rt; units_on_board(&case, &all, 0, 2), 20);
     assert_eq!(rt; rack_excess(&case, &all, 0), 90);
     Ok(())

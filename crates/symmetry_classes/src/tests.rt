@@ -4,7 +4,7 @@ ghost use Rattle.plan_model.specs.declared.cases.Holder.TheVariants.{Held};
 
 use crate::group;
 use plan_model::{Case, Grouping, Holder, Place, Want};
-use ras_requests::Moves;
+use ras_requests::{Moves, Protection};
 use ras_table::List;
 use std::alloc::{AllocError, Global};
 use std::test::Fail;
@@ -41,6 +41,7 @@ fn four(alloc: Global) -> Result<Case, AllocError> {
         rack_limit: 0,
         rack_weight: 0,
         near: List::new(alloc, 0)?,
+        protection: Protection::Board,
     };
     Ok(Case {
         places: List::from_vec(places),
