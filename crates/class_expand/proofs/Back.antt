@@ -1,6 +1,6 @@
 -- An assignment that gives each class a whole point's numbers is allowed in the phase, and costs at most the point's value.
 use Rattle.std.proofs.Common.{◌≡◌, ℕ, zero, suc, ◌+◌, ◌*◌, ◌-◌, ◌<◌, ◌≤◌, Bool, true, false, cond, List, [], ◌∷◌, length, get_or, arith, ap, sym, ◌∙◌, refl, Some, None, All, subst}
-use Rattle.std.specs.Prelude.{sum_by, count_by, map, filter, slice_get, slice_index, slice_index_or, Option, nat_lt, nat_le, nat_eq, ◌==◌, ◌&&◌, IsTrue, pos, ◌-ℤ◌}
+use Rattle.std.specs.Prelude.{sum_by, count_by, map, filter, slice_get, slice_index, slice_index_or, Option, nat_lt, nat_eq, ◌==◌, ◌&&◌, IsTrue, pos, ◌-ℤ◌}
 use Rattle.std.specs.List.{list_all, range_with_len}
 use Rattle.std.specs.Option.{option_eq, option_map_or}
 use Rattle.std.proofs.lemmas.Int.{ints}
@@ -12,8 +12,10 @@ use Rattle.plan_model.specs.declared.cases.Case.{Case}
 use Rattle.plan_model.specs.declared.cases.Place.{Place}
 use Rattle.plan_model.specs.declared.cases.Assignment.{Assignment}
 use Rattle.plan_model.specs.declared.cases.Grouping.{Grouping}
-use Rattle.plan_model.specs.Units.{want_of, value_for, place_of, server_with, no_place, servers_with_places, all_reservations, units, units_on_board, units_on_rack, units_in_center}
-use Rattle.plan_model.specs.Allowed.{serves, fits, keeps_need, survives_loss, survives_each_loss, region_allowed}
+use Rattle.plan_model.specs.Units.{want_of, value_for, place_of, server_with, no_place, servers_with_places, all_reservations, units, units_where, units_on_board, units_on_rack, units_in_center}
+use Rattle.plan_model.specs.Allowed.{serves, fits, keeps_need, region_allowed}
+use Rattle.plan_model.specs.Losses.{is_lost}
+use Rattle.plan_model.proofs.AllowedLaws.{keeps-from}
 use Rattle.plan_model.specs.Rack.{is_movable, none_or_in, keeps_to_chosen}
 use Rattle.plan_model.proofs.SumLemmas.{length-fits}
 use Rattle.plan_model.proofs.CaseFacts.{list_all-at}
@@ -33,15 +35,15 @@ use Rattle.program_rows.specs.Phases.{IsPhase, is_active, phase_allowed, phase_c
 use Rattle.program_rows.proofs.ListSums.{sum_by-zip_second}
 use Rattle.program_rows.proofs.LineSums.{column_sum-pos}
 use Rattle.program_rows.proofs.PhaseSums.{same-all, most-all, zero-all, IsLawful, trio, All-trio, movable-sum, assigned-sum}
-use Rattle.program_rows.proofs.PhaseRows.{CountsIn, columns_of, point_in, total-sum, loss-sum, inactive-keeps}
+use Rattle.program_rows.proofs.PhaseRows.{CountsIn, columns_of, point_in, total-sum, inactive-keeps}
 use Rattle.program_rows.proofs.PhaseCosts.{class-columns, list_all-from, passed}
 use Rattle.program_rows.specs.Programs.{has_share, in_class, destinations, program_base, program_lines, total_line, loss_line}
 use Rattle.program_rows.proofs.LineSums.{term_sum, term_sum-line}
 use Rattle.program_rows.proofs.RangeSums.{list_all-range}
 use Rattle.class_expand.specs.Lifting.{number_of, lack}
 use Rattle.class_expand.specs.Laws.{WholePointIsAllowed}
-use Rattle.program_rows.proofs.Parts.{touches_board, rack_line, columns-all, RowsHave, lines-from, least_line, share_line, over_line, short_line}
-use Rattle.class_expand.proofs.HelperRows.{rack-sum, share-sum, over-sum, short-sum}
+use Rattle.program_rows.proofs.Parts.{losses_of, loss_of, touches_loss, touches_board, rack_line, columns-all, RowsHave, lines-from, least_line, share_line, over_line, short_line}
+use Rattle.class_expand.proofs.HelperRows.{loss-sum, rack-sum, share-sum, over-sum, short-sum}
 use Rattle.class_expand.proofs.HelperCosts.{untouched-zero}
 use Rattle.program_rows.proofs.Lists.{All-range_to, greatest-most}
 use Rattle.class_expand.proofs.ClassCounts.{stands-most, stands-right, each_once-from}
@@ -62,9 +64,6 @@ both false b e h = e
 
 lt-true : (m n : ℕ) → m < n → nat_lt m n ≡ true
 lt-true m n h = grind (arith, nat_tests)
-
-le-true : (m n : ℕ) → m ≤ n → nat_le m n ≡ true
-le-true m n h = grind (arith, nat_tests)
 
 slice_get-map : {X Y : Type 0} (f : X → Y) (xs : List X) (k : ℕ) (d : X) → k < length xs → slice_get (map f xs) k ≡ Some (f (get_or xs k d))
 slice_get-map f [] k d within = absurd (omega arith)
@@ -222,19 +221,21 @@ module _ (case : Case) (setting : Setting) (phase : IsPhase case setting) (how :
     untouched : (r board : ℕ) → is_active setting r ≡ true → touches_board case setting r board ≡ false → units_on_board case a r board ≡ 0
     untouched r board within t = untouched-zero case setting phase a lawful how r within (λ s. s.board == board) (λ s. s.board == board) (λ p h. h) t
 
-    survives-by : (r board : ℕ) → is_active setting r ≡ true → board < case.boards → (b : Bool) → touches_board case setting r board ≡ b
-        → (want_of case r).need ≤ units case a r - units_on_board case a r board
-    survives-by r board within there true t =
-        let met = met-by (loss_line case (phase_classes case setting how) (columns_of case setting how) r board) point (pos (units case a r - units_on_board case a r board))
-        (loss-sum case setting phase a lawful how number counts r within board) ((rows r within).loss board there t) in
+    survives-by : (r n : ℕ) → is_active setting r ≡ true → n < losses_of case r → (b : Bool) → touches_loss case setting r n ≡ b
+        → (want_of case r).need ≤ units case a r - units_where (is_lost (loss_of case r n)) case a r
+    survives-by r n within there true t =
+        let lost = loss_of case r n in
+        let met = met-by (loss_line case (phase_classes case setting how) (columns_of case setting how) r lost) point (pos (units case a r - units_where (is_lost lost) case a r))
+        (loss-sum case setting phase a lawful how number counts r within lost) ((rows r within).loss n there t) in
         omega (arith, ints, met)
-    survives-by r board within there false t = let none = untouched r board within t in omega (arith, none, enough r within)
+    survives-by r n within there false t =
+        let lost = is_lost (loss_of case r n) in
+        let none = untouched-zero case setting phase a lawful how r within lost lost (λ p h. h) t in
+        omega (arith, none, enough r within)
 
     keeps-active : (r : ℕ) → is_active setting r ≡ true → keeps_need case a r ≡ true
     keeps-active r within =
-        both (nat_le (want_of case r).need (units case a r)) (survives_each_loss case a r) (le-true (want_of case r).need (units case a r) (enough r within))
-        (list_all-range (survives_loss case a r) case.boards
-        (λ board there. le-true (want_of case r).need (units case a r - units_on_board case a r board) (survives-by r board within there (touches_board case setting r board) refl)))
+        keeps-from case a r (enough r within) (λ n there. survives-by r n within there (touches_loss case setting r n) refl)
 
     keeps : (r : ℕ) → r < length case.wants → (b : Bool) → is_active setting r ≡ b → keeps_need case a r ≡ true
     keeps r within true e = keeps-active r e

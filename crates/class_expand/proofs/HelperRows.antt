@@ -1,10 +1,11 @@
 -- The rows of helpers in the program of a phase, at a point that counts an assignment: what they say of the helper's number.
 use Rattle.std.proofs.Common.{◌≡◌, ℕ, ◌+◌, ◌*◌, ◌<◌, Bool, true, false, cond, List, [], ◌∷◌, length, get_or, arith, ap, sym, ◌∙◌, refl, Some, None, All}
-use Rattle.std.specs.Prelude.{sum_by, zip, Option, nat_lt, ◌==◌, ◌&&◌, ◌||◌, not, ℤ, pos, neg_ℤ, ◌+ℤ◌, ◌-ℤ◌, ◌*ℤ◌}
+use Rattle.std.specs.Prelude.{sum_by, zip, Option, nat_lt, ◌==◌, ◌&&◌, ◌||◌, not, ℤ, pos, neg_ℤ, ◌+ℤ◌, ◌-ℤ◌, ◌*ℤ◌, ◌-◌}
 use Rattle.std.specs.List.{list_all, list_any}
 use Rattle.std.specs.Option.{option_map_or}
 use Rattle.std.proofs.lemmas.Int.{ints}
 use borrow.Author.Differences.{up, down}
+use Rattle.std.proofs.lemmas.List.Filters.{sum_by-filter_both}
 use Rattle.std.proofs.lemmas.List.Sums.{sum_by-cons}
 use Rattle.std.proofs.lemmas.List.Elements.{All-head, All-tail}
 use Rattle.std.proofs.lemmas.List.Recursion.{or_at}
@@ -16,7 +17,10 @@ use Rattle.plan_model.specs.declared.cases.Goal.{Goal}
 use Rattle.plan_model.specs.declared.cases.Assignment.{Assignment}
 use Rattle.plan_model.specs.declared.cases.Grouping.{Grouping}
 use Rattle.plan_model.specs.CaseRule.{stand_together}
-use Rattle.plan_model.specs.Units.{want_of, is_for, share_of, servers_with_places, place_of, units_where, units_on_board, units_on_rack, units_in_center}
+use Rattle.plan_model.specs.declared.losses.Lost.{Lost}
+use Rattle.plan_model.specs.declared.losses.Lost.TheVariants as loss
+use Rattle.plan_model.specs.Losses.{is_lost}
+use Rattle.plan_model.specs.Units.{want_of, is_for, share_of, servers_with_places, place_of, units, units_where, units_on_board, units_on_rack, units_in_center}
 use Rattle.plan_model.proofs.SumLemmas.{sum_by-filter}
 use Rattle.plan_model.proofs.CaseFacts.{list_all-at}
 use Rattle.symmetry_classes.specs.declared.groups.Class.{Class}
@@ -25,13 +29,13 @@ use Rattle.symmetry_classes.proofs.Partition.{sum_by-zero}
 use Rattle.ip_model.specs.declared.parts.Mark.{Mark}
 use Rattle.ip_model.specs.declared.parts.Mark.TheVariants.{Share, BoardExcess, Shortage, RackExcess}
 use Rattle.ip_model.specs.declared.parts.Column.{Column}
-use Rattle.ip_model.specs.declared.parts.RowKind.TheVariants.{LargestShare, BoardOver, CenterShort, RackOver}
+use Rattle.ip_model.specs.declared.parts.RowKind.TheVariants.{Loss, LargestShare, BoardOver, CenterShort, RackOver}
 use Rattle.program_rows.specs.Settings.{Setting, phase_classes}
 use Rattle.program_rows.specs.Phases.{IsPhase, is_active}
 use Rattle.program_rows.proofs.PhaseSums.{IsLawful, start-of}
 use Rattle.program_rows.proofs.PhaseRows.{CountsIn, columns_of, point_in, where-columns}
-use Rattle.program_rows.specs.Programs.{units_at, has_share, at_rack_excess, at_share, at_board_excess, at_shortage, board_in_center}
-use Rattle.program_rows.proofs.LineSums.{term_sum, column_sum, term_sum-line}
+use Rattle.program_rows.specs.Programs.{units_at, has_share, at_rack_excess, at_share, at_board_excess, at_shortage, board_in_center, board_lost, loss_line}
+use Rattle.program_rows.proofs.LineSums.{term_sum, column_sum, column_sum-pos, term_sum-line}
 use Rattle.program_rows.proofs.Parts.{touches_board, touches_rack, rack_line, IsShortEntry, share_line, over_line, short_line}
 use Rattle.program_rows.proofs.Once.{rack-once, share-once, board-once, short-once}
 
@@ -135,6 +139,12 @@ center-units case a r (Some d) =
     ap (λ b. cond b (share_of case r (get_or case.places k z, to)) 0) (board-lies case d k z within ((get_or case.places k z).center == d) refl))
     ∙ sym (sum_by-filter (λ s. s.0.center == d) (share_of case r) (servers_with_places case a))
 
+-- and the units on the switchboards that are lost are the units that are lost
+pub lost-units : (case : Case) (a : Assignment) (r : ℕ) (lost : Lost) → units_where (λ s. board_lost case lost s.board) case a r ≡ units_where (is_lost lost) case a r
+lost-units case a r loss.Total = refl
+lost-units case a r (loss.Board board) = refl
+lost-units case a r (loss.Center d) = center-units case a r (Some d)
+
 module _ (case : Case) (setting : Setting) (phase : IsPhase case setting) (a : Assignment) (lawful : IsLawful case setting a) (how : Grouping) (number : Mark → ℕ)
     (counts : CountsIn case setting how a number) where
   abbrev weigh_units : (Class → Bool) → ℕ → Column → ℕ
@@ -196,3 +206,18 @@ module _ (case : Case) (setting : Setting) (phase : IsPhase case setting) (a : A
       ∙ column_sum-plus (at_shortage r entry) units number (columns_of case setting how)
       ∙ ap (λ k. pos (k + sum_by (λ c. units c.mark * number c.mark) (columns_of case setting how))) (short-once case setting (start-of case setting phase) how number r entry goal within short)
       ∙ ap (λ k. pos (number (Shortage r entry) + k)) (center-columns r goal.center within)
+
+  -- the row of a loss sums to the units that are left
+  pub loss-sum : (r : ℕ) → is_active setting r ≡ true → (lost : Lost)
+      → term_sum (loss_line case (phase_classes case setting how) (columns_of case setting how) r lost).terms (point_in case setting how number)
+      ≡ pos (units case a r - units_where (is_lost lost) case a r)
+  loss-sum r active lost =
+      let outside : Class → Bool = λ class. not (board_lost case lost class.board) in
+      let apart : Place → Bool = λ s. not (board_lost case lost s.board) in
+      let factor : Mark → ℕ = units_at case (phase_classes case setting how) outside r in
+      let split = sum_by-filter_both (λ s. board_lost case lost s.0.board) (λ s. not (board_lost case lost s.0.board)) (λ _. refl) (share_of case r) (servers_with_places case a) in
+      let left : units_where apart case a r ≡ units case a r - units_where (is_lost lost) case a r = omega (arith, split, lost-units case a r lost) in
+      term_sum-line (columns_of case setting how) Loss (λ mark. pos (factor mark)) (pos (want_of case r).need) number
+      ∙ column_sum-pos factor number (columns_of case setting how)
+      ∙ ap pos (where-columns case setting phase a lawful how number counts r active outside apart (λ _. refl)
+      (λ x y e. ap (λ b. not (board_lost case lost b)) (common-from_class how setting.racks case x y e).board) ∙ left)

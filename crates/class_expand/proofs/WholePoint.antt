@@ -11,10 +11,11 @@ use Rattle.plan_model.specs.declared.cases.Case.{Case}
 use Rattle.plan_model.specs.declared.cases.Goal.{Goal}
 use Rattle.plan_model.specs.declared.cases.Assignment.{Assignment}
 use Rattle.plan_model.specs.declared.cases.Grouping.{Grouping}
-use Rattle.plan_model.specs.Units.{want_of, all_reservations, units, units_on_board, units_on_rack, units_in_center}
-use Rattle.plan_model.specs.Allowed.{keeps_need, survives_loss}
+use Rattle.plan_model.specs.Units.{want_of, all_reservations, units, units_where, units_on_board, units_on_rack, units_in_center}
+use Rattle.plan_model.specs.Allowed.{keeps_need, survives}
+use Rattle.plan_model.specs.Losses.{is_lost}
 use Rattle.plan_model.specs.Costs.{region_cost, rack_excess, greatest, board_units}
-use Rattle.plan_model.proofs.AllowedLaws.{list_all-range_at}
+use Rattle.plan_model.proofs.AllowedLaws.{list_all-range_at, keeps-total, keeps-survives}
 use Rattle.symmetry_classes.specs.declared.groups.Class.{Class}
 use Rattle.ip_model.specs.declared.parts.Mark.{Mark}
 use Rattle.ip_model.specs.declared.parts.Mark.TheVariants.{Shortage}
@@ -29,15 +30,15 @@ use Rattle.program_rows.specs.Members.{gets}
 use Rattle.program_rows.specs.Phases.{IsPhase, is_active, phase_cost}
 use Rattle.program_rows.proofs.LineSums.{column_sum-pos}
 use Rattle.program_rows.proofs.PhaseSums.{IsLawful}
-use Rattle.program_rows.proofs.PhaseRows.{CountsIn, columns_of, point_in, total-sum, loss-sum}
+use Rattle.program_rows.proofs.PhaseRows.{CountsIn, columns_of, point_in, total-sum}
 use Rattle.program_rows.proofs.PhaseCosts.{class-columns, classes-counted, base-counts-terms}
 use Rattle.program_rows.specs.Programs.{destinations, has_share, in_class, count_columns, helper_columns, program_base, program_lines, total_line, loss_line}
 use Rattle.program_rows.proofs.LineSums.{term_sum, column_sum, term_sum-line}
 use Rattle.class_expand.specs.Lifting.{number_of, lack, counts_of, IsProgramOf}
 use Rattle.class_expand.specs.Laws.{AllowedIsWholePoint}
 use Rattle.program_rows.proofs.Lists.{All-range_from, all-at, length_map}
-use Rattle.program_rows.proofs.Parts.{touches_board, touches_rack, rack_line, IsShortEntry, RowsHave, lines-to, most_line, least_line, share_line, over_line, short_line}
-use Rattle.class_expand.proofs.HelperRows.{rack-sum, share-sum, over-sum, short-sum}
+use Rattle.program_rows.proofs.Parts.{loss_of, touches_board, touches_rack, rack_line, IsShortEntry, RowsHave, lines-to, most_line, least_line, share_line, over_line, short_line}
+use Rattle.class_expand.proofs.HelperRows.{loss-sum, rack-sum, share-sum, over-sum, short-sum}
 use Rattle.class_expand.proofs.HelperCosts.{helpers-paid}
 use Rattle.class_expand.proofs.Tops.{within-tops, greatest-bounds}
 use Rattle.class_expand.proofs.Points.{terms_at-is, total-columns, map-most, replicate-none}
@@ -143,12 +144,13 @@ module _ (case : Case) (setting : Setting) (phase : IsPhase case setting) (how :
           record {
             total = meets-by (total_line case (phase_classes case setting how) (columns_of case setting how) r) point (pos (units case a r))
                 (total-sum case setting phase a lawful how number counted r within)
-                (let enough : nat_le (want_of case r).need (units case a r) ≡ true = and-left _ _ kept in
+                (let enough : nat_le (want_of case r).need (units case a r) ≡ true = keeps-total case a r kept in
                 let at_least : (want_of case r).need ≤ units case a r = grind (arith, nat_tests, enough) in omega (arith, ints, at_least));
-            loss = λ board there touched. meets-by (loss_line case (phase_classes case setting how) (columns_of case setting how) r board) point (pos (units case a r - units_on_board case a r board))
-                (loss-sum case setting phase a lawful how number counted r within board)
-                (let enough : survives_loss case a r board ≡ true = list_all-range_at (survives_loss case a r) case.boards board (and-right _ _ kept) there in
-                let at_least : (want_of case r).need ≤ units case a r - units_on_board case a r board = grind (arith, nat_tests, enough) in omega (arith, ints, at_least));
+            loss = λ n there touched. let lost = loss_of case r n in
+                meets-by (loss_line case (phase_classes case setting how) (columns_of case setting how) r lost) point (pos (units case a r - units_where (is_lost lost) case a r))
+                (loss-sum case setting phase a lawful how number counted r within lost)
+                (let enough : survives case a r lost ≡ true = keeps-survives case a r n kept there in
+                let at_least : (want_of case r).need ≤ units case a r - units_where (is_lost lost) case a r = grind (arith, nat_tests, enough) in omega (arith, ints, at_least));
             share = share-met r within;
             over = over-met r within;
             short = short-met r within;

@@ -10,6 +10,7 @@ use Rattle.std.proofs.lemmas.List.Sums.{sum_by-cons}
 use Rattle.std.proofs.lemmas.Bool.Decides.{nat_tests}
 use Rattle.plan_model.specs.declared.cases.Case.{Case}
 use Rattle.plan_model.specs.Units.{want_of, value_for, place_of}
+use Rattle.plan_model.specs.Losses.{loss_at}
 use Rattle.symmetry_classes.specs.declared.groups.Class.{Class}
 use Rattle.symmetry_classes.specs.Groups.{same_class, class_of, first_of_each}
 use Rattle.symmetry_classes.proofs.Partition.{sum_by-same, sum_by-zero}
@@ -100,7 +101,7 @@ module _ (case : Case) (setting : Setting) where
       let b = length-append (losses ++ shares ++ overs) shorts in
       let c = length-append (losses ++ shares) overs in
       let d = length-append losses shares in
-      let e = length-map x.boards (loss_line case classes columns x.reservation) in
+      let e = length-map x.losses (λ number. loss_line case classes columns x.reservation (loss_at (want_of case x.reservation).protection number)) in
       let f = length-map (cond (reach_shares case x) x.boards []) (share_line case classes columns x.reservation) in
       let g = length-map (reach_excess case x) (over_line case classes columns x.reservation) in
       let h = length-map (short_entries case x.reservation) (short_line case classes columns x.reservation) in

@@ -21,6 +21,8 @@ use Rattle.plan_model.specs.declared.cases.Case.{Case}
 use Rattle.plan_model.specs.declared.cases.Goal.{Goal}
 use Rattle.plan_model.specs.declared.cases.Grouping.{Grouping}
 use Rattle.plan_model.specs.CaseRule.{goal_in_range}
+use Rattle.plan_model.specs.declared.losses.Lost.{Lost}
+use Rattle.plan_model.specs.Losses.{loss_at}
 use Rattle.plan_model.specs.Units.{want_of, value_for, is_for, place_of, servers_with_places}
 use Rattle.plan_model.proofs.CaseFacts.{list_all-at, want-in_range, near-in_range, want-limits}
 use Rattle.symmetry_classes.specs.declared.groups.Class.{Class}
@@ -34,7 +36,7 @@ use Rattle.ip_model.specs.declared.parts.RowKind.TheVariants.{ClassMost, ClassLe
 use Rattle.ip_model.specs.Limits.{is_helper, LineInRange, ColumnInRange}
 use Rattle.program_rows.specs.Phases.{IsStart, is_active}
 use Rattle.program_rows.specs.Settings.{Setting, movable_flags, movable_servers, phase_classes}
-use Rattle.program_rows.specs.Programs.{in_class, units_at, at_share, at_board_excess, at_shortage, at_rack_excess, has_share, movable_value, board_in_center, total_line, loss_line, program_lines}
+use Rattle.program_rows.specs.Programs.{in_class, units_at, at_share, at_board_excess, at_shortage, at_rack_excess, has_share, movable_value, board_in_center, board_lost, total_line, loss_line, program_lines}
 use Rattle.program_rows.proofs.ClassRows.{IsCountFactor}
 use Rattle.program_rows.proofs.PhaseRows.{columns_of}
 use Rattle.program_rows.proofs.Parts.{columns-all, touches_board, touches_rack, IsShortEntry, lines-to, most_line, least_line, share_line, over_line, short_line, rack_line}
@@ -269,9 +271,9 @@ module _ (case : Case) (setting : Setting) (phase : IsStart case setting) (how :
   plain-kept r active =
       plain-line columns Total (λ m. pos (units (λ _. true) r m)) (pos (want_of case r).need) (units-small (λ _. true) r (phase.there r active)) (pos-none (units (λ _. true) r) (units-counts (λ _. true) r)) (need-most case r (phase.there r active))
 
-  pub loss-kept : (r : ℕ) → is_active setting r ≡ true → (board : ℕ) → kept (loss_line case (phase_classes case setting how) columns r board)
-  loss-kept r active board =
-      let outside : Class → Bool = λ class. not (class.board == board) in
+  pub loss-kept : (r : ℕ) → is_active setting r ≡ true → (lost : Lost) → kept (loss_line case (phase_classes case setting how) columns r lost)
+  loss-kept r active lost =
+      let outside : Class → Bool = λ class. not (board_lost case lost class.board) in
       plain-line columns Loss (λ m. pos (units outside r m)) (pos (want_of case r).need) (units-small outside r (phase.there r active)) (pos-none (units outside r) (units-counts outside r)) (need-most case r (phase.there r active))
 
   goal-most : (r entry : ℕ) (goal : Goal) → is_active setting r ≡ true → IsShortEntry case r entry goal → goal.least ≤ 10000000
@@ -340,7 +342,7 @@ module _ (case : Case) (setting : Setting) (phase : IsStart case setting) (how :
     least = least-kept;
     rows = λ r active. record {
       total = plain-kept r active;
-      loss = λ board there touched. loss-kept r active board;
+      loss = λ number there touched. loss-kept r active (loss_at (want_of case r).protection number);
       share = λ has board there touched. share-kept r active has board;
       over = λ weight board there touched. over-kept r active weight board there touched;
       short = λ entry goal short. short-kept r active entry goal short;

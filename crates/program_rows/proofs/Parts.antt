@@ -7,6 +7,8 @@ use Rattle.plan_model.specs.declared.cases.Case.{Case}
 use Rattle.plan_model.specs.declared.cases.Goal.{Goal}
 use Rattle.plan_model.specs.declared.cases.Grouping.{Grouping}
 use Rattle.plan_model.specs.Units.{want_of, is_for}
+use Rattle.plan_model.specs.declared.losses.Lost.{Lost}
+use Rattle.plan_model.specs.Losses.{is_lost, losses_named, loss_at}
 use Rattle.symmetry_classes.specs.declared.groups.Class.{Class}
 use Rattle.ip_model.specs.declared.parts.Mark.TheVariants.{Share, BoardExcess, Shortage, RackExcess}
 use Rattle.ip_model.specs.declared.parts.Column.{Column}
@@ -14,7 +16,7 @@ use Rattle.ip_model.specs.declared.parts.Line.{Line}
 use Rattle.ip_model.specs.declared.parts.RowKind.TheVariants.{ClassMost, ClassLeast, LargestShare, BoardOver, CenterShort, RackOver}
 use Rattle.program_rows.specs.Settings.{Setting, phase_classes}
 use Rattle.program_rows.specs.Phases.{is_active}
-use Rattle.program_rows.specs.Programs.{touches, touched_boards, touched_racks, excess_racks, at_rack_excess, movable_value, has_share, excess_boards, short_entries, destinations, count_column, count_columns, helper_column, share_columns, board_excess_columns, shortage_columns, rack_excess_columns, helper_columns, line, in_class, units_at, at_share, at_board_excess, at_shortage, board_in_center, class_lines, loss_line, loss_lines, total_line, largest_share_lines, board_over_lines, center_short_lines, rack_over_lines, reservation_lines, program_lines}
+use Rattle.program_rows.specs.Programs.{touches, touched_boards, touched_losses, touched_racks, excess_racks, at_rack_excess, movable_value, has_share, excess_boards, short_entries, destinations, count_column, count_columns, helper_column, share_columns, board_excess_columns, shortage_columns, rack_excess_columns, helper_columns, line, in_class, units_at, at_share, at_board_excess, at_shortage, board_in_center, class_lines, loss_line, loss_lines, total_line, largest_share_lines, board_over_lines, center_short_lines, rack_over_lines, reservation_lines, program_lines}
 use Rattle.program_rows.proofs.PhaseSums.{All-active, any-at}
 use Rattle.program_rows.proofs.PhaseRows.{columns_of}
 use Rattle.program_rows.proofs.Lists.{All-map_to, All-map_from, All-append_from, All-flat_map_to, All-flat_map_from, All-filter_to, All-filter_from, All-if_to, All-if_from, All-range_to, All-range_from, All-enumerate_to, All-enumerate_from}
@@ -34,6 +36,17 @@ both false b e h = e
 -- whether a movable server on the switchboard has a value above 0 for r
 abbrev pub touches_board : Case → Setting → ℕ → ℕ → Bool
 touches_board case setting r board = touches case setting r (λ s. s.board == board)
+
+-- the losses that the protection of r names
+abbrev pub losses_of : Case → ℕ → ℕ
+losses_of case r = losses_named case (want_of case r).protection
+
+abbrev pub loss_of : Case → ℕ → ℕ → Lost
+loss_of case r number = loss_at (want_of case r).protection number
+
+-- one that would be lost
+abbrev pub touches_loss : Case → Setting → ℕ → ℕ → Bool
+touches_loss case setting r number = touches case setting r (is_lost (loss_of case r number))
 
 -- and one in the rack
 abbrev pub touches_rack : Case → Setting → ℕ → ℕ → Bool
@@ -126,7 +139,8 @@ rack_line case setting how r rack =
 
 pub record RowsHave (case : Case) (setting : Setting) (how : Grouping) (P : Line → Type 0) (r : ℕ) : Type 0 where
   pub total : P (total_line case (phase_classes case setting how) (columns_of case setting how) r)
-  pub loss : (board : ℕ) → board < case.boards → touches_board case setting r board ≡ true → P (loss_line case (phase_classes case setting how) (columns_of case setting how) r board)
+  pub loss : (number : ℕ) → number < losses_of case r → touches_loss case setting r number ≡ true
+      → P (loss_line case (phase_classes case setting how) (columns_of case setting how) r (loss_of case r number))
   pub share : has_share case setting r ≡ true → (board : ℕ) → board < case.boards → touches_board case setting r board ≡ true → P (share_line case setting how r board)
   pub over : nat_lt 0 (want_of case r).spread_weight ≡ true → (board : ℕ) → board < case.boards → touches_board case setting r board ≡ true → P (over_line case setting how r board)
   pub short : (entry : ℕ) (goal : Goal) → IsShortEntry case r entry goal → P (short_line case setting how r entry goal)
@@ -150,6 +164,15 @@ module _ (case : Case) (setting : Setting) (how : Grouping) (P : Line → Type 0
   rack-touched-from : (f : ℕ → Line) (r : ℕ) → All (λ k. P (f k)) (touched_racks case setting r) → (rack : ℕ) → rack < case.racks → touches_rack case setting r rack ≡ true → P (f rack)
   rack-touched-from f r a = All-range_from (λ k. touches_rack case setting r k ≡ true → P (f k)) case.racks (All-filter_from (λ k. P (f k)) (touches_rack case setting r) (range_with_len 0 case.racks) a)
 
+  loss-touched-to : (f : ℕ → Line) (r : ℕ) → ((number : ℕ) → number < losses_of case r → touches_loss case setting r number ≡ true → P (f number)) → All (λ n. P (f n)) (touched_losses case setting r)
+  loss-touched-to f r h = All-filter_to (λ n. P (f n)) (touches_loss case setting r) (range_with_len 0 (losses_of case r)) (All-range_to (λ n. touches_loss case setting r n ≡ true → P (f n)) (losses_of case r) h)
+
+  loss-touched-from : (f : ℕ → Line) (r : ℕ) → All (λ n. P (f n)) (touched_losses case setting r) → (number : ℕ) → number < losses_of case r → touches_loss case setting r number ≡ true → P (f number)
+  loss-touched-from f r a = All-range_from (λ n. touches_loss case setting r n ≡ true → P (f n)) (losses_of case r) (All-filter_from (λ n. P (f n)) (touches_loss case setting r) (range_with_len 0 (losses_of case r)) a)
+
+  abbrev loss_row : ℕ → ℕ → Line
+  loss_row r number = loss_line case classes columns r (loss_of case r number)
+
   touched-to : (f : ℕ → Line) (r : ℕ) → ((board : ℕ) → board < case.boards → touches_board case setting r board ≡ true → P (f board)) → All (λ b. P (f b)) (touched_boards case setting r)
   touched-to f r h = All-filter_to (λ b. P (f b)) (touches_board case setting r) (range_with_len 0 case.boards) (All-range_to (λ b. touches_board case setting r b ≡ true → P (f b)) case.boards h)
 
@@ -170,7 +193,7 @@ module _ (case : Case) (setting : Setting) (how : Grouping) (P : Line → Type 0
       (All-append P (losses ++ shares ++ overs) shorts
       (All-append P (losses ++ shares) overs
       (All-append P losses shares
-      (All-map_to P (loss_line case classes columns r) (touched_boards case setting r) (touched-to (loss_line case classes columns r) r have.loss))
+      (All-map_to P (loss_row r) (touched_losses case setting r) (loss-touched-to (loss_row r) r have.loss))
       (All-map_to P (share_line case setting how r) (cond (has_share case setting r) (touched_boards case setting r) [])
       (All-if_to (λ b. P (share_line case setting how r b)) (has_share case setting r) (touched_boards case setting r) (λ e. touched-to (share_line case setting how r) r (have.share e)))))
       (All-map_to P (over_line case setting how r) (excess_boards case setting r)
@@ -197,7 +220,7 @@ module _ (case : Case) (setting : Setting) (how : Grouping) (P : Line → Type 0
       let first1 = All-append_from P losses shares first2.0 in
       record {
         total = All-head P (total_line case classes columns r) (losses ++ shares ++ overs ++ shorts ++ racks) a;
-        loss = touched-from (loss_line case classes columns r) r (All-map_from P (loss_line case classes columns r) (touched_boards case setting r) first1.0);
+        loss = loss-touched-from (loss_row r) r (All-map_from P (loss_row r) (touched_losses case setting r) first1.0);
         share = λ e. touched-from (share_line case setting how r) r
             (All-if_from (λ b. P (share_line case setting how r b)) (has_share case setting r) (touched_boards case setting r)
             (All-map_from P (share_line case setting how r) (cond (has_share case setting r) (touched_boards case setting r) []) first1.1) e);

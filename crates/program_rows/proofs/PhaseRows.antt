@@ -1,31 +1,30 @@
 -- In a phase, the rows of units at the counts of an assignment, and what a reservation keeps where it is not active.
-use Rattle.std.proofs.Common.{◌≡◌, ℕ, ◌+◌, ◌*◌, ◌-◌, Bool, true, false, cond, List, [], ◌∷◌, get_or, arith, ap, sym, ◌∙◌, refl, Some, None}
+use Rattle.std.proofs.Common.{◌≡◌, ℕ, ◌+◌, ◌*◌, ◌-◌, Bool, true, false, cond, List, [], ◌∷◌, get_or, ap, sym, ◌∙◌, refl, Some, None}
 use Rattle.std.specs.Prelude.{sum_by, map, slice_get, Option, nat_lt, nat_le, nat_eq, ◌==◌, ◌&&◌, not, pos}
 use Rattle.std.specs.List.{list_all, range_with_len}
 use Rattle.std.specs.Option.{option_eq, option_map_or}
 use Rattle.std.proofs.lemmas.Bool.{eqb-true}
-use Rattle.std.proofs.lemmas.List.Filters.{sum_by-filter_both}
 use Rattle.plan_model.specs.declared.cases.Place.{Place}
 use Rattle.plan_model.specs.declared.cases.Case.{Case}
 use Rattle.plan_model.specs.declared.cases.Assignment.{Assignment}
 use Rattle.plan_model.specs.declared.cases.Grouping.{Grouping}
 use Rattle.plan_model.specs.Units.{value_for, share_of, units, units_where, units_on_board, units_in_center, servers_with_places, place_of, server_with, want_of}
-use Rattle.plan_model.specs.Allowed.{keeps_need, survives_loss}
+use Rattle.plan_model.specs.Allowed.{keeps_need, survives}
+use Rattle.plan_model.specs.Losses.{is_lost, losses}
 use Rattle.plan_model.specs.Costs.{terms_cost, greatest, board_units, excess, shortage_cost}
 use Rattle.plan_model.specs.Rack.{is_movable, none_or_in, some_value}
 use Rattle.plan_model.proofs.SumLemmas.{length-fits, sum_by-filter}
 use Rattle.symmetry_classes.specs.declared.groups.Class.{Class}
 use Rattle.symmetry_classes.specs.Groups.{class_of, same_class}
-use Rattle.symmetry_classes.proofs.SameClass.{common-from_class}
 use Rattle.symmetry_classes.proofs.Partition.{sum_by-same}
 use Rattle.ip_model.specs.declared.parts.Mark.{Mark}
 use Rattle.ip_model.specs.declared.parts.Mark.TheVariants.{Count}
 use Rattle.ip_model.specs.declared.parts.Column.{Column}
-use Rattle.ip_model.specs.declared.parts.RowKind.TheVariants.{Total, Loss}
+use Rattle.ip_model.specs.declared.parts.RowKind.TheVariants.{Total}
 use Rattle.program_rows.specs.Members.{members_with}
 use Rattle.program_rows.specs.Phases.{IsPhase, is_active}
 use Rattle.program_rows.specs.Settings.{Setting, movable_servers, phase_classes}
-use Rattle.program_rows.specs.Programs.{units_at, program_columns, total_line, loss_line}
+use Rattle.program_rows.specs.Programs.{units_at, program_columns, total_line}
 use Rattle.program_rows.proofs.LineSums.{term_sum, term_sum-line}
 use Rattle.program_rows.proofs.UnitsRows.{units-columns}
 use Rattle.program_rows.proofs.LineSums.{column_sum-pos}
@@ -165,10 +164,10 @@ module _ (case : Case) (setting : Setting) (phase : IsPhase case setting) (a : A
   pub inactive-keeps : (r : ℕ) → is_active setting r ≡ false → keeps_need case a r ≡ keeps_need case setting.start r
   inactive-keeps r idle =
       let need = (want_of case r).need in
-      ap (λ n. nat_le need n && list_all (λ b. nat_le need (n - units_on_board case a r b)) (range_with_len 0 case.boards)) (inactive-units r idle)
-      ∙ ap (λ b. nat_le need (units case setting.start r) && b)
-      (list_all-same (λ b. nat_le need (units case setting.start r - units_on_board case a r b)) (survives_loss case setting.start r)
-      (λ b. ap (λ n. nat_le need (units case setting.start r - n)) (inactive-where r idle (λ s. s.board == b))) (range_with_len 0 case.boards))
+      list_all-same (survives case a r) (survives case setting.start r)
+      (λ lost. ap (λ n. nat_le need (n - units_where (is_lost lost) case a r)) (inactive-units r idle)
+      ∙ ap (λ n. nat_le need (units case setting.start r - n)) (inactive-where r idle (is_lost lost)))
+      (losses case r)
 
   inactive-center : (r : ℕ) → is_active setting r ≡ false → (center : Option ℕ) → option_map_or (units_in_center case a r) center 0 ≡ option_map_or (units_in_center case setting.start r) center 0
   inactive-center r idle None = refl
@@ -199,16 +198,3 @@ module _ (case : Case) (setting : Setting) (phase : IsPhase case setting) (a : A
         term_sum-line (columns_of case setting how) Total (λ mark. pos (factor mark)) (pos (want_of case r).need) number
         ∙ column_sum-pos factor number (columns_of case setting how)
         ∙ ap pos (where-columns r active (λ _. true) (λ _. true) (λ _. refl) (λ _ _ _. refl) ∙ sum_by-filter (λ _. true) (share_of case r) (servers_with_places case a))
-
-    pub loss-sum : (r : ℕ) → is_active setting r ≡ true → (board : ℕ)
-        → term_sum (loss_line case (phase_classes case setting how) (columns_of case setting how) r board).terms (point_in case setting how number)
-        ≡ pos (units case a r - units_on_board case a r board)
-    loss-sum r active board =
-        let outside : Class → Bool = λ class. not (class.board == board) in
-        let apart : Place → Bool = λ s. not (s.board == board) in
-        let factor : Mark → ℕ = units_at case (phase_classes case setting how) outside r in
-        let split = sum_by-filter_both (λ s. s.0.board == board) (λ s. not (s.0.board == board)) (λ _. refl) (share_of case r) (servers_with_places case a) in
-        let left : units_where apart case a r ≡ units case a r - units_on_board case a r board = omega (arith, split) in
-        term_sum-line (columns_of case setting how) Loss (λ mark. pos (factor mark)) (pos (want_of case r).need) number
-        ∙ column_sum-pos factor number (columns_of case setting how)
-        ∙ ap pos (where-columns r active outside apart (λ _. refl) (λ x y e. ap (λ b. not (b == board)) (common-from_class how setting.racks case x y e).board) ∙ left)

@@ -7,13 +7,17 @@ use Rattle.std.proofs.lemmas.List.FromFn.{length-range_with_len}
 use Rattle.std.proofs.lemmas.Bool.Decides.{nat_tests}
 use Rattle.plan_model.specs.declared.cases.Case.{Case}
 use Rattle.plan_model.specs.Units.{want_of, value_for, place_of}
+use Rattle.plan_model.specs.Losses.{losses_named, loss_at}
+use Rattle.plan_model.proofs.CaseFacts.{few-boards, few-centers}
 use Rattle.plan_model.proofs.SumLemmas.{sum_by-filter}
 use Rattle.symmetry_classes.proofs.Partition.{sum_by-zero}
 use Rattle.program_rows.specs.declared.phases.Phase.{Phase}
 use Rattle.program_rows.specs.declared.phases.Phase.TheVariants.{Region, Rack as RackPhase}
 use Rattle.program_rows.specs.declared.reach.Level.TheVariants.{Board, Rack}
+use Rattle.ras_requests.specs.declared.requests.Protection.{Protection}
+use Rattle.ras_requests.specs.declared.requests.Protection.TheVariants as protection
 use Rattle.program_rows.specs.Settings.{setting_of, start_fits, movable_flags, movable_servers, racks_count}
-use Rattle.program_rows.specs.Reach.{reaches_at, reach_of, ReachFits}
+use Rattle.program_rows.specs.Reach.{reaches_at, reaches_loss, losses_among, reach_of, ReachFits}
 use Rattle.program_rows.proofs.Actives.{is-start, length-flags, active-there, in_range-most}
 use Rattle.program_rows.proofs.BaseLimit.{constants}
 use Rattle.program_rows.proofs.ClassSums.{sum_by-plus}
@@ -71,6 +75,17 @@ reached-few case servers r =
     let most = reached-most (λ s. (place_of case s).rack) (λ s. nat_lt 0 (value_for case r (place_of case s).kind)) case.racks servers in
     omega (arith, count, most)
 
+named-few : (case : Case) (p : Protection) → losses_named case p ≤ 64
+named-few case protection.Total = omega arith
+named-few case protection.Board = few-boards case
+named-few case protection.Center = few-centers case
+
+-- at most 64 losses touch servers
+pub losses-few : (case : Case) (servers : List ℕ) (r : ℕ) (p : Protection) → length (losses_among case servers r p) ≤ 64
+losses-few case servers r p =
+    let less = length-filter (λ number. reaches_loss case servers r (loss_at p number)) (range_with_len 0 (losses_named case p)) in
+    omega (arith, less, length-range_with_len 0 (losses_named case p), named-few case p)
+
 if-few : (b : Bool) (xs : List ℕ) (m : ℕ) → length xs ≤ m → length (cond b xs []) ≤ m
 if-few true xs m h = h
 if-few false xs m h = omega arith
@@ -86,6 +101,7 @@ reach-fits case phase fit r there =
           let sum = thousands servers in omega (arith, most, sum, few));
       boards = (let less = length-filter (reaches_at case servers r Board) (range_with_len 0 case.boards) in
           let boards : case.boards ≤ 64 = grind (arith, nat_tests, case.kept) in omega (arith, less, boards, length-range_with_len 0 case.boards));
+      losses = losses-few case servers r (want_of case r).protection;
       racks = if-few (setting.racks && nat_lt 0 (want_of case r).rack_weight) (filter (reaches_at case servers r Rack) (range_with_len 0 case.racks)) 20000
           (let less = reached-few case servers r in omega (arith, less, few));
     }

@@ -4,28 +4,42 @@ use Rattle.std.specs.List.{list_any, range_with_len}
 use Rattle.plan_model.specs.declared.cases.Place.{Place}
 use Rattle.plan_model.specs.declared.cases.Case.{Case}
 use Rattle.plan_model.specs.Units.{place_of, want_of, value_for}
+use Rattle.ras_requests.specs.declared.requests.Protection.{Protection}
+use Rattle.plan_model.specs.declared.losses.Lost.{Lost}
+use Rattle.plan_model.specs.Losses.{is_lost, losses_named, loss_at}
 use Rattle.symmetry_classes.specs.declared.groups.Class.{Class}
 use Rattle.ip_model.specs.declared.parts.Mark.TheVariants.{Share, BoardExcess, RackExcess}
 use Rattle.ip_model.specs.declared.parts.Column.{Column}
 use Rattle.program_rows.specs.declared.reach.Level.{Level}
-use Rattle.program_rows.specs.declared.reach.Level.TheVariants.{Board, Rack}
+use Rattle.program_rows.specs.declared.reach.Level.TheVariants.{Board, Rack, Center}
 use Rattle.program_rows.specs.declared.reach.Reach.{Reach}
 use Rattle.program_rows.specs.Settings.{Setting, movable_servers}
 use Rattle.program_rows.specs.Programs.{count_column, helper_column, shortage_columns}
 
--- the number of a server's switchboard or rack, and how many of these there are
+-- the number of a server's switchboard, rack or datacenter, and how many of these there are
 abbrev pub number_at : Level → Place → ℕ
 number_at Board place = place.board
 number_at Rack place = place.rack
+number_at Center place = place.center
 
 abbrev pub numbers_at : Level → Case → ℕ
 numbers_at Board case = case.boards
 numbers_at Rack case = case.racks
+numbers_at Center case = case.centers
 
 -- whether one of the servers stands there and has a value above 0 for r
 abbrev pub reaches_at : Case → List ℕ → ℕ → Level → ℕ → Bool
 reaches_at case servers r level number =
     list_any (λ s. (number_at level (place_of case s) == number) && nat_lt 0 (value_for case r (place_of case s).kind)) servers
+
+-- whether one of the servers would be lost and has a value above 0 for r
+abbrev pub reaches_loss : Case → List ℕ → ℕ → Lost → Bool
+reaches_loss case servers r lost = list_any (λ s. is_lost lost (place_of case s) && nat_lt 0 (value_for case r (place_of case s).kind)) servers
+
+-- the losses that a protection names and that touch one of the servers, by number
+abbrev pub losses_among : Case → List ℕ → ℕ → Protection → List ℕ
+losses_among case servers r protection =
+    filter (λ number. reaches_loss case servers r (loss_at protection number)) (range_with_len 0 (losses_named case protection))
 
 -- what r finds among the servers
 abbrev pub reach_among : Case → List ℕ → Bool → ℕ → Reach
@@ -33,6 +47,7 @@ reach_among case servers racks r = record {
   reservation = r;
   value = sum_by (λ s. value_for case r (place_of case s).kind) servers;
   boards = filter (reaches_at case servers r Board) (range_with_len 0 case.boards);
+  losses = losses_among case servers r (want_of case r).protection;
   racks = if racks && nat_lt 0 (want_of case r).rack_weight then filter (reaches_at case servers r Rack) (range_with_len 0 case.racks) else [];
 }
 
@@ -44,6 +59,7 @@ pub record ReachFits (case : Case) (reach : Reach) : Type 0 where
   pub there : reach.reservation < length case.wants
   pub value : reach.value ≤ 20000000
   pub boards : length reach.boards ≤ 64
+  pub losses : length reach.losses ≤ 64
   pub racks : length reach.racks ≤ 20000
 
 -- ---- columns

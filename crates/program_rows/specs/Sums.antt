@@ -3,6 +3,7 @@ use Rattle.std.specs.Prelude.{ℕ, Bool, true, false, not, ◌==◌, nat_lt, if�
 use Rattle.plan_model.specs.declared.cases.Case.{Case}
 use Rattle.plan_model.specs.declared.cases.Goal.{Goal}
 use Rattle.plan_model.specs.Units.{want_of, is_for}
+use Rattle.plan_model.specs.Losses.{loss_at}
 use Rattle.symmetry_classes.specs.declared.groups.Class.{Class}
 use Rattle.ip_model.specs.declared.parts.Mark.{Mark}
 use Rattle.ip_model.specs.declared.parts.Mark.TheVariants.{Count, Share, BoardExcess, Shortage, RackExcess}
@@ -12,7 +13,7 @@ use Rattle.ip_model.specs.declared.parts.RowKind.TheVariants.{ClassMost, ClassLe
 use Rattle.ip_model.specs.declared.parts.Line.{Line}
 use Rattle.program_rows.specs.declared.reach.Reach.{Reach}
 use Rattle.program_rows.specs.declared.sums.Among.{Among}
-use Rattle.program_rows.specs.declared.sums.Among.TheVariants.{Every, OffBoard, OnBoard, OnBoards, InRack}
+use Rattle.program_rows.specs.declared.sums.Among.TheVariants.{Every, OffBoard, OnBoard, OnBoards, OffBoards, InRack}
 use Rattle.program_rows.specs.declared.sums.Sum.{Sum}
 use Rattle.program_rows.specs.declared.sums.Sum.TheVariants.{LessClass, OfClass, Units, HelperLess, HelperPlus}
 use Rattle.program_rows.specs.declared.sums.Row.{Row}
@@ -24,6 +25,7 @@ abbrev pub counts_class : Among → Class → Bool
 counts_class Every class = true
 counts_class (OffBoard board) class = not (class.board == board)
 counts_class (OnBoard board) class = class.board == board
+counts_class (OffBoards flags) class = not (slice_index_or flags.now class.board false)
 counts_class (OnBoards flags) class = slice_index_or flags.now class.board false
 counts_class (InRack rack) class = is_for rack class.rack
 
@@ -63,8 +65,13 @@ least_row class members = record { kind = ClassLeast; sum = OfClass class; least
 
 -- ---- the rows of a reservation
 
+-- the row of what r needs from the classes that count
+abbrev pub left_line : Case → List Class → List Column → ℕ → Among → Line
+left_line case classes columns r left = line columns Loss (λ mark. pos (units_at case classes (counts_class left) r mark)) (pos (want_of case r).need)
+
 abbrev pub reach_losses : Case → List Class → List Column → Reach → List Line
-reach_losses case classes columns reach = map (loss_line case classes columns reach.reservation) reach.boards
+reach_losses case classes columns reach =
+    map (λ number. loss_line case classes columns reach.reservation (loss_at (want_of case reach.reservation).protection number)) reach.losses
 
 abbrev pub share_line : Case → List Class → List Column → ℕ → ℕ → Line
 share_line case classes columns r board =
@@ -108,7 +115,7 @@ abbrev pub reach_rows : Case → RowKind → Reach → ℕ
 reach_rows case ClassMost reach = 0
 reach_rows case ClassLeast reach = 0
 reach_rows case Total reach = 1
-reach_rows case Loss reach = length reach.boards
+reach_rows case Loss reach = length reach.losses
 reach_rows case LargestShare reach = length (if reach_shares case reach then reach.boards else [])
 reach_rows case BoardOver reach = length (reach_excess case reach)
 reach_rows case CenterShort reach = length (short_entries case reach.reservation)

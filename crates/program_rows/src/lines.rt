@@ -1,17 +1,17 @@
 //! The rows of the program of a phase.
 ghost use Rattle.std.specs.Prelude.{◌≡◌, ◌<◌, ◌≤◌, ◌^◌, ◌++◌, [], ◌∷◌, All, IfOk, IsTrue, OnOk, flat_map, if◌then◌else◌, length, map};
 ghost use Rattle.std.specs.List.{enumerate_from, range_with_len};
-ghost use Rattle.program_rows.specs.Programs.{board_in_center, class_lines, total_line, center_short_lines};
+ghost use Rattle.program_rows.specs.Programs.{board_in_center, class_lines, total_line, loss_line, center_short_lines};
 ghost use Rattle.plan_model.specs.Units.{is_for};
 ghost use Rattle.program_rows.specs.Reach.{ReachFits, reach_shares};
-ghost use Rattle.program_rows.specs.Sums.{sum_fits, line_of, most_row, least_row, reach_losses, reach_largest_shares, reach_board_overs, reach_rack_overs, reach_lines, short_line};
+ghost use Rattle.program_rows.specs.Sums.{sum_fits, line_of, left_line, most_row, least_row, reach_losses, reach_largest_shares, reach_board_overs, reach_rack_overs, reach_lines, short_line};
 
 use crate::columns::{costs, excess_boards, has_share};
 use crate::reach::Reach;
 use crate::sums::{Among, Row, Sum, written};
 use crate::values::want_at;
 use ip_model::{Column, Line, Mark, RowKind};
-use plan_model::{Case, Goal, Place};
+use plan_model::{Case, Goal, Lost, Place, loss_at};
 use std::alloc::{AllocError, Global};
 use symmetry_classes::Class;
 
@@ -108,7 +108,70 @@ fn push_total(
     push_row(alloc, case, classes, columns, &row, rows)
 }
 
-/// Adds the rows of what a reservation needs after the loss of a switchboard.
+/// Adds the row of what a reservation needs from the classes that are left after a loss.
+fn push_left(
+    alloc: Global,
+    case: &Case,
+    classes: &[Class],
+    columns: &[Column],
+    r: u32,
+    left: Among<'_>,
+    rows: &mut Vec<Line>,
+) -> Result<(), AllocError>
+    requires there { r < length case.now.wants }
+    requires few { length columns.now ≤ 2048 }
+    ensures { OnOk result (rows.new.items ≡ rows.old.items ++ left_line case.now classes.now columns.now r left.entry ∷ []) }
+{
+    let row = Row {
+        kind: RowKind::Loss,
+        sum: Sum::Units(r, left),
+        least: want_at(case, r).need as i32,
+    };
+    push_row(alloc, case, classes, columns, &row, rows)
+}
+
+/// Adds the row of what a reservation needs after a loss.
+fn push_loss(
+    alloc: Global,
+    case: &Case,
+    classes: &[Class],
+    columns: &[Column],
+    r: u32,
+    lost: Lost,
+    rows: &mut Vec<Line>,
+) -> Result<(), AllocError>
+    requires there { r < length case.now.wants }
+    requires few { length columns.now ≤ 2048 }
+    ensures { OnOk result (rows.new.items ≡ rows.old.items ++ loss_line case.now classes.now columns.now r lost ∷ []) }
+{
+    match lost {
+        Lost::Total => push_left(alloc, case, classes, columns, r, Among::Every, rows),
+        Lost::Board(board) => push_left(
+            alloc,
+            case,
+            classes,
+            columns,
+            r,
+            Among::OffBoard(board),
+            rows,
+        ),
+        Lost::Center(center) => {
+            let flags = boards_in(alloc, case, Some(center))?;
+            push_left(
+                alloc,
+                case,
+                classes,
+                columns,
+                r,
+                Among::OffBoards(flags.as_slice()),
+                rows,
+            )?;
+            Ok(())
+        }
+    }
+}
+
+/// Adds the rows of what a reservation needs after the losses that its protection names.
 fn push_losses(
     alloc: Global,
     case: &Case,
@@ -122,14 +185,17 @@ fn push_losses(
     ensures { OnOk result (rows.new.items ≡ rows.old.items ++ reach_losses case.now classes.now columns.now reach.now) }
 {
     let r = reach.reservation;
-    let least = want_at(case, r).need as i32;
-    for board in reach.boards.as_slice() {
-        let row = Row {
-            kind: RowKind::Loss,
-            sum: Sum::Units(r, Among::OffBoard(*board)),
-            least,
-        };
-        push_row(alloc, case, classes, columns, &row, rows)?;
+    let protection = want_at(case, r).protection;
+    for number in reach.losses.as_slice() {
+        push_loss(
+            alloc,
+            case,
+            classes,
+            columns,
+            r,
+            loss_at(protection, *number),
+            rows,
+        )?;
     }
     Ok(())
 }

@@ -3,50 +3,56 @@ ghost use Rattle.std.specs.Prelude.{◌≡◌, ◌<◌, ◌≤◌, ◌^◌, IfOk
 ghost use Rattle.std.specs.List.{range_with_len};
 ghost use Rattle.plan_model.specs.Units.{place_of, value_for};
 ghost use Rattle.symmetry_classes.specs.Groups.{flagged_servers};
-ghost use Rattle.program_rows.specs.Reach.{number_at as number_of, numbers_at as numbers_of, reaches_at, reach_among as reach_of, reach_of as reach_in, ReachFits};
+ghost use Rattle.program_rows.specs.Reach.{number_at as number_of, numbers_at as numbers_of, reaches_at, losses_among, reach_among as reach_of, reach_of as reach_in, ReachFits};
 ghost use Rattle.program_rows.specs.Settings.{setting_of, start_fits};
 
 use crate::phases::Phase;
 use crate::servers::{counts_racks, movables};
 use crate::values::{value, want_at};
 use plan_model::{Case, Place};
+use ras_requests::Protection;
 use ras_table::List;
 use std::alloc::{AllocError, Global};
 
-/// What servers share: a switchboard, or a rack.
+/// What servers share: a switchboard, a rack, or a datacenter.
 #[derive(Clone, Copy)]
 pub enum Level {
     Board,
     Rack,
+    Center,
 }
 
-/// The movable servers that have a value above 0 for a reservation: their value, and the switchboards and racks on
-/// which they stand, by rising number. Racks are there only where they cost.
+/// The movable servers that have a value above 0 for a reservation: their value, the switchboards and racks on which they
+/// stand, and the losses that touch them of those that the reservation's protection names, each by rising number. Racks
+/// are there only where they cost.
 #[derive(Debug, Drop)]
 pub struct Reach {
     pub reservation: u32,
     pub value: u32,
     pub boards: List<u32>,
+    pub losses: List<u32>,
     pub racks: List<u32>,
 }
 
-/// The number of a server's switchboard or rack.
+/// The number of a server's switchboard, rack or datacenter.
 fn number_at(level: Level, place: &Place) -> u32
     ensures { result ≡ number_of level place.now }
 {
     match level {
         Level::Board => place.board,
         Level::Rack => place.rack,
+        Level::Center => place.center,
     }
 }
 
-/// How many switchboards or racks there are.
+/// How many switchboards, racks or datacenters there are.
 fn numbers_at(level: Level, case: &Case) -> u32
     ensures { result ≡ numbers_of level case.now }
 {
     match level {
         Level::Board => case.boards,
         Level::Rack => case.racks,
+        Level::Center => case.centers,
     }
 }
 
@@ -64,7 +70,7 @@ pub(crate) fn flagged_numbers(alloc: Global, flags: &[bool]) -> Result<List<u32>
     Ok(List::from_vec(numbers))
 }
 
-/// For each switchboard or rack, whether one of the servers stands there and has a value above 0 for reservation r.
+/// For each switchboard, rack or datacenter, whether one of the servers stands there and has a value above 0 for reservation r.
 fn flags_at(
     alloc: Global,
     case: &Case,
@@ -88,7 +94,7 @@ fn flags_at(
     Ok(flags)
 }
 
-/// The switchboards or racks on which one of the servers has a value above 0 for reservation r.
+/// The switchboards, racks or datacenters in which one of the servers has a value above 0 for reservation r.
 fn reached(
     alloc: Global,
     case: &Case,
@@ -119,6 +125,25 @@ fn value_of(case: &Case, servers: &[u32], r: u32) -> u32
     sum
 }
 
+/// The losses that a protection names and that touch one of the servers, by number.
+fn reached_losses(
+    alloc: Global,
+    case: &Case,
+    servers: &[u32],
+    r: u32,
+    protection: Protection,
+) -> Result<List<u32>, AllocError>
+    requires there { r < length case.now.wants }
+    requires servers { All (λ s. s < length case.now.places) servers.now }
+    ensures { IfOk result (λ numbers. numbers ≡ losses_among case.now servers.now r protection) }
+{
+    match protection {
+        Protection::Total => List::new(alloc, 0),
+        Protection::Board => reached(alloc, case, servers, r, Level::Board),
+        Protection::Center => reached(alloc, case, servers, r, Level::Center),
+    }
+}
+
 /// What reservation r finds among the servers.
 pub(crate) fn reach_among(
     alloc: Global,
@@ -136,6 +161,7 @@ pub(crate) fn reach_among(
         reservation: r,
         value: value_of(case, servers, r),
         boards: reached(alloc, case, servers, r, Level::Board)?,
+        losses: reached_losses(alloc, case, servers, r, want_at(case, r).protection)?,
         racks: reached_racks(alloc, case, servers, racks, r)?,
     })
 }

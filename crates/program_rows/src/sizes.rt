@@ -124,7 +124,7 @@ fn reach_rows(case: &Case, kind: RowKind, reach: &Reach) -> u32
         RowKind::ClassMost => 0,
         RowKind::ClassLeast => 0,
         RowKind::Total => 1,
-        RowKind::Loss => reach.boards.len(),
+        RowKind::Loss => reach.losses.len(),
         RowKind::LargestShare => share_boards(case, reach).len() as u32,
         RowKind::BoardOver => excess_boards(case, reach).len() as u32,
         RowKind::CenterShort => count_shortages(case, reach.reservation),

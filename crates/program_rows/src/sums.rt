@@ -20,6 +20,8 @@ pub enum Among<'a> {
     OnBoard(u32),
     /// Those on a switchboard whose flag is set.
     OnBoards(&'a [bool]),
+    /// Those on a switchboard whose flag is not set.
+    OffBoards(&'a [bool]),
     InRack(u32),
 }
 
@@ -51,6 +53,7 @@ fn counts_class(among: Among<'_>, class: &Class) -> bool
         Among::OffBoard(board) => class.board != board,
         Among::OnBoard(board) => class.board == board,
         Among::OnBoards(flags) => flags.get(class.board as usize).copied().unwrap_or(false),
+        Among::OffBoards(flags) => !flags.get(class.board as usize).copied().unwrap_or(false),
         Among::InRack(rack) => match class.rack {
             Some(k) => k == rack,
             None => false,

@@ -4,6 +4,7 @@ use Rattle.ras_requests.specs.declared.requests.Moves.{Moves}
 use Rattle.plan_model.specs.declared.cases.Holder.TheVariants.{Free}
 use Rattle.plan_model.specs.declared.cases.Place.{Place}
 use Rattle.plan_model.specs.declared.cases.Want.{Want}
+use Rattle.ras_requests.specs.declared.requests.Protection.TheVariants.{Board}
 use Rattle.plan_model.specs.declared.cases.Case.{Case}
 use Rattle.plan_model.specs.CaseRule.{case_rule}
 
@@ -26,6 +27,7 @@ needing need value = record {
   rack_limit = 0;
   rack_weight = 0;
   near = [];
+  protection = Board;
 }
 
 -- six servers, two on each of three switchboards

@@ -12,7 +12,6 @@ use Rattle.plan_model.specs.declared.cases.Case.{Case}
 use Rattle.plan_model.specs.declared.cases.Grouping.TheVariants.{Class}
 use Rattle.plan_model.specs.Units.{no_want, want_of}
 use Rattle.plan_model.specs.Joined.{joined_place, joined_want}
-use Rattle.plan_model.proofs.CaseFacts.{few-boards}
 use Rattle.program_rows.specs.Settings.{region_setting, phase_classes}
 use Rattle.program_rows.specs.Programs.{program_columns, program_lines}
 use Rattle.program_rows.specs.Sizes.{size_fault_of}
@@ -53,13 +52,11 @@ few-fit case servers wants plain =
     let classes = phase_classes case setting Class in
     let some = classes-most case setting Class in
     let two : length setting.active ≡ 2 = length-range_with_len 0 (length case.wants) ∙ wants in
-    let boards = few-boards case in
     let columns = columns-most case setting refl plain classes in
     let rows = rows-most case setting refl plain classes in
     let ways = ap (λ n. length classes * (n + 1)) two in
-    let losses = ap (λ n. n * (1 + case.boards)) two in
     no-fault (length (program_columns case setting classes)) (length (program_lines case setting classes)) (omega (arith, some, servers, columns, ways))
-    (omega (arith, some, servers, boards, rows, losses))
+    (omega (arith, some, servers, rows, two))
 
 pub sample-fits : SampleFits
 sample-fits number size region requests bindings case few is =

@@ -1,22 +1,24 @@
 -- How large the program of a phase is at most, where no reservation has weights and racks do not count.
 use Rattle.std.proofs.Common.{◌≡◌, ℕ, ◌+◌, ◌*◌, ◌≤◌, Bool, true, false, cond, List, [], ◌∷◌, ◌++◌, length, arith, ap, ◌∙◌, refl, Option, Some, None}
-use Rattle.std.specs.Prelude.{map, filter, flat_map, nat_lt, not, ◌&&◌, ◌==◌}
-use Rattle.std.specs.List.{enumerate_from, range_with_len}
+use Rattle.std.specs.Prelude.{map, filter, flat_map, nat_lt, not, ◌&&◌}
+use Rattle.std.specs.List.{enumerate_from}
 use Rattle.std.proofs.lemmas.List.{length-append, length-map}
-use Rattle.std.proofs.lemmas.List.FromFn.{length-range_with_len, length-enumerate_from}
+use Rattle.std.proofs.lemmas.List.FromFn.{length-enumerate_from}
 use Rattle.std.proofs.lemmas.Slice.Zip.{length-zip}
 use Rattle.plan_model.specs.declared.cases.Want.{Want}
 use Rattle.plan_model.specs.declared.cases.Case.{Case}
 use Rattle.plan_model.specs.declared.cases.Grouping.{Grouping}
 use Rattle.plan_model.specs.Rack.{is_movable}
 use Rattle.plan_model.specs.Units.{want_of, value_for, servers_with_places}
+use Rattle.plan_model.specs.Losses.{loss_at}
 use Rattle.symmetry_classes.specs.declared.groups.Class.{Class}
 use Rattle.symmetry_classes.specs.Groups.{same_class, class_of, first_of_each}
 use Rattle.ip_model.specs.declared.parts.Column.{Column}
 use Rattle.ip_model.specs.declared.parts.Mark.TheVariants.{Share, BoardExcess, Shortage, RackExcess}
 use Rattle.program_rows.specs.Settings.{Setting, movable_flags, movable_servers, phase_classes}
-use Rattle.program_rows.specs.Programs.{touches, touched_boards, touched_racks, movable_value, helper_column, excess_boards, short_entries, excess_racks, has_share, count_column, count_columns, share_columns, board_excess_columns, shortage_columns, rack_excess_columns, helper_columns, program_columns, class_lines, loss_line, loss_lines, largest_share_lines, board_over_lines, center_short_lines, rack_over_lines, reservation_lines, program_lines}
+use Rattle.program_rows.specs.Programs.{touches, touched_boards, touched_losses, touched_racks, movable_value, helper_column, excess_boards, short_entries, excess_racks, has_share, count_column, count_columns, share_columns, board_excess_columns, shortage_columns, rack_excess_columns, helper_columns, program_columns, class_lines, loss_line, loss_lines, largest_share_lines, board_over_lines, center_short_lines, rack_over_lines, reservation_lines, program_lines}
 use Rattle.program_rows.proofs.Pushes.{length-filter, length-flagged}
+use Rattle.program_rows.proofs.ReachLimits.{losses-few}
 
 pub length-flat_map_most : {X Y : Type 0} (f : X → List Y) (most : ℕ) (xs : List X) → ((x : X) → length (f x) ≤ most) → length (flat_map f xs) ≤ length xs * most
 length-flat_map_most f most [] h = omega arith
@@ -88,22 +90,22 @@ module _ (case : Case) (setting : Setting) (racks : setting.racks ≡ false) (pl
       let rests : length d ≡ 0 = length-map (excess_racks case setting r) (λ rack. helper_column (RackExcess r rack) (want_of case r).rack_weight value) ∙ ap length (no-excess_racks r) in
       omega (arith, shares, overs, shorts, rests, length-append (a ++ b ++ c) d, length-append (a ++ b) c, length-append a b)
 
-  -- a total, and at most one loss for each switchboard
-  reservation_lines-most : (classes : List Class) (columns : List Column) (r : ℕ) → length (reservation_lines case setting classes columns r) ≤ 1 + case.boards
+  -- a total, and the losses
+  reservation_lines-most : (classes : List Class) (columns : List Column) (r : ℕ) → length (reservation_lines case setting classes columns r) ≤ 65
   reservation_lines-most classes columns r =
       let a = loss_lines case setting classes columns r in
       let b = largest_share_lines case setting classes columns r in
       let c = board_over_lines case setting classes columns r in
       let d = center_short_lines case classes columns r in
       let e = rack_over_lines case setting classes columns r in
-      let losses = length-map (touched_boards case setting r) (loss_line case classes columns r) in
-      let touched = length-filter (λ board. touches case setting r (λ s. s.board == board)) (range_with_len 0 case.boards) in
-      let all = length-range_with_len 0 case.boards in
+      let protection = (want_of case r).protection in
+      let losses = length-map (touched_losses case setting r) (λ number. loss_line case classes columns r (loss_at protection number)) in
+      let touched : length (touched_losses case setting r) ≤ 64 = losses-few case (movable_servers case setting) r protection in
       let shares : length b ≡ 0 = length-map _ _ ∙ ap (λ some. length (cond some (touched_boards case setting r) [])) (no-share r) in
       let overs : length c ≡ 0 = length-map _ _ ∙ ap length (no-excess_boards r) in
       let shorts : length d ≡ 0 = length-map _ _ ∙ ap length (no-short_entries r) in
       let rests : length e ≡ 0 = length-map _ _ ∙ ap length (no-excess_racks r) in
-      omega (arith, losses, touched, all, shares, overs, shorts, rests, length-append (a ++ b ++ c ++ d) e, length-append (a ++ b ++ c) d, length-append (a ++ b) c, length-append a b)
+      omega (arith, losses, touched, shares, overs, shorts, rests, length-append (a ++ b ++ c ++ d) e, length-append (a ++ b ++ c) d, length-append (a ++ b) c, length-append a b)
 
   pub columns-most : (classes : List Class) → length (program_columns case setting classes) ≤ length classes * (length setting.active + 1)
   columns-most classes =
@@ -113,12 +115,12 @@ module _ (case : Case) (setting : Setting) (racks : setting.racks ≡ false) (pl
       let numbered = ap (λ n. n * (length setting.active + 1)) (length-enumerate_from 0 classes) in
       omega (arith, counts, helpers, both, numbered)
 
-  pub rows-most : (classes : List Class) → length (program_lines case setting classes) ≤ length classes * 2 + length setting.active * (1 + case.boards)
+  pub rows-most : (classes : List Class) → length (program_lines case setting classes) ≤ length classes * 2 + length setting.active * 65
   rows-most classes =
       let columns = program_columns case setting classes in
       let two : (c : ℕ × Class) → length (class_lines columns c) ≤ 2 = λ c. let two : length (class_lines columns c) ≡ 2 = refl in omega (arith, two) in
       let counts = length-flat_map_most (class_lines columns) 2 (enumerate_from 0 classes) two in
-      let rest = length-flat_map_most (reservation_lines case setting classes columns) (1 + case.boards) setting.active (reservation_lines-most classes columns) in
+      let rest = length-flat_map_most (reservation_lines case setting classes columns) 65 setting.active (reservation_lines-most classes columns) in
       let both = length-append (flat_map (class_lines columns) (enumerate_from 0 classes)) (flat_map (reservation_lines case setting classes columns) setting.active) in
       let numbered = length-enumerate_from 0 classes in
       omega (arith, counts, rest, both, numbered)

@@ -5,6 +5,7 @@ use Rattle.ras_inventory.specs.declared.line.Line.{Line}
 use Rattle.ras_inventory.specs.Regions.{Regional, regional}
 use Rattle.ras_inventory.specs.declared.bindings.Binding.{Binding}
 use Rattle.ras_requests.specs.declared.requests.Moves.{Moves}
+use Rattle.ras_requests.specs.declared.requests.Protection.TheVariants.{Board}
 use Rattle.ras_requests.specs.declared.requests.Value.{Value}
 use Rattle.ras_requests.specs.declared.requests.Reservation.{Reservation}
 use Rattle.ras_requests.specs.Requested.{Requested}
@@ -69,6 +70,7 @@ web need rack_weight = record {
   rack_limit = 10;
   rack_weight = rack_weight;
   near = [];
+  protection = Board;
 }
 
 abbrev pub db : Reservation
@@ -82,6 +84,7 @@ db = record {
   rack_limit = 0;
   rack_weight = 0;
   near = [];
+  protection = Board;
 }
 
 abbrev pub sample_moves : Moves
