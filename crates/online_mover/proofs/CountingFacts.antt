@@ -1,21 +1,17 @@
 -- The servers that count, as an assignment that fits the case.
-use Rattle.std.proofs.Common.{◌≡◌, ℕ, Bool, true, false, cond, List, [], ◌∷◌, length, set, map, arith, ap, sym, ◌∙◌, refl, subst, None}
-use Rattle.std.specs.Prelude.{Option, nat_lt, ◌==◌}
-use Rattle.std.specs.List.{list_all}
+use Rattle.std.proofs.Common.{◌≡◌, ℕ, Bool, true, false, cond, List, set, map, ap, sym, ◌∙◌, refl, None}
+use Rattle.std.specs.Prelude.{Option, nat_lt}
 use Rattle.std.specs.Option.{option_map_or}
-use Rattle.std.proofs.lemmas.Bool.Decides.{nat_tests}
-use Rattle.std.proofs.lemmas.List.{length-map, map-set}
+use Rattle.std.proofs.lemmas.List.{map-set}
 use Rattle.plan_model.specs.declared.cases.Holder.{Holder}
 use Rattle.plan_model.specs.declared.cases.Holder.TheVariants.{Held, Gone, Free as Nobody}
 use Rattle.plan_model.specs.declared.cases.Assignment.{Assignment}
-use Rattle.plan_model.specs.Allowed.{fits}
 use Rattle.online_mover.specs.declared.stands.Stand.{Stand}
 use Rattle.online_mover.specs.declared.stands.Stand.TheVariants.{Free, Joining, Bound, Draining}
 use Rattle.online_mover.specs.declared.stands.Server.{Server}
-use Rattle.online_mover.specs.States.{State, state_rule, server_of, with_stand, bound_for, held_for, counts_for, counting, server_in_range, stand_in_range, holder_in_range}
+use Rattle.online_mover.specs.States.{State, server_of, with_stand, bound_for, held_for, counts_for, counting, server_in_range, stand_in_range, holder_in_range}
 use Rattle.online_mover.specs.Without.{without}
-use Rattle.online_mover.proofs.Covers.{and-left, and-right, both}
-use Rattle.online_mover.proofs.Rules.{facts-of}
+use Rattle.online_mover.proofs.Covers.{and-left}
 
 abbrev in_range : ℕ → Option ℕ → Bool
 in_range n to = option_map_or (λ r. nat_lt r n) to true

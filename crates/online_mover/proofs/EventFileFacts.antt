@@ -1,5 +1,5 @@
 -- What the loop over the records of a file of events keeps.
-use Rattle.std.proofs.Common.{ℕ, suc, ◌+◌, ◌<◌, ◌≡◌, ◌∙◌, sym, ap, refl, List, [], ◌∷◌, ◌++◌, length, drop, get_or, Result, Ok, Err, OnOk, false, arith, drop-cons, add-one}
+use Rattle.std.proofs.Common.{ℕ, ◌+◌, ◌<◌, ◌≡◌, ◌∙◌, sym, ap, refl, List, [], ◌∷◌, ◌++◌, length, drop, get_or, Result, Ok, Err, OnOk, false, drop-cons, add-one}
 use Rattle.std.specs.Result.{is_err}
 use Rattle.online_mover.specs.EventFiles.{timed_at, and_then, events_from}
 use Rattle.online_mover.specs.declared.timed.Timed.{Timed}

@@ -1,15 +1,14 @@
 -- One server is put in place of another: what is kept beside the servers.
-use Rattle.std.proofs.Common.{◌≡◌, ℕ, zero, suc, ◌+◌, ◌<◌, ◌≤◌, Bool, true, false, cond, List, [], ◌∷◌, ◌++◌, length, get_or, set, map, take, drop, arith, ap, sym, ◌∙◌, refl, subst, Some, None}
-use Rattle.std.specs.Prelude.{Option, IsTrue, count_by, nat_lt, replicate}
+use Rattle.std.proofs.Common.{◌≡◌, ℕ, zero, suc, ◌+◌, ◌<◌, ◌≤◌, Bool, true, false, cond, List, [], ◌∷◌, ◌++◌, length, get_or, set, map, take, drop, arith, ap, sym, ◌∙◌, refl, None}
+use Rattle.std.specs.Prelude.{Option, count_by, nat_lt, replicate}
 use Rattle.std.specs.List.{list_all}
 use Rattle.std.specs.Option.{option_map_or}
-use Rattle.std.proofs.lemmas.List.{get_or-set_same, length-set, map-set, length-map, take_all, drop_all, append-nil, get_or-map, length-replicate}
+use Rattle.std.proofs.lemmas.List.{get_or-set_same, length-set, take_all, drop_all, append-nil, length-replicate}
 use Rattle.std.proofs.lemmas.List.Sums.{get_or-le-sum_by}
-use Rattle.plan_model.specs.declared.cases.Case.{Case}
 use Rattle.plan_model.proofs.CaseFacts.{list_all-at}
 use Rattle.plan_model.proofs.SumLemmas.{few-places}
 use Rattle.online_mover.specs.declared.stands.Server.{Server}
-use Rattle.online_mover.specs.States.{State, state_rule, server_of, with_server, no_server, moves, in_flight, counts_for, server_in_range}
+use Rattle.online_mover.specs.States.{State, state_rule, server_of, with_server, no_server, moves, counts_for, server_in_range}
 use Rattle.online_mover.proofs.Rules.{facts-of, at-range}
 use Rattle.online_mover.proofs.CountingFacts.{count-range}
 use Rattle.online_mover.proofs.Flight.{flight-set}

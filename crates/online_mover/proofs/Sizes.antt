@@ -11,13 +11,13 @@ use Rattle.online_mover.specs.declared.stands.Command.TheVariants.{Drain, Bind}
 use Rattle.online_mover.specs.declared.stands.Event.{Event}
 use Rattle.online_mover.specs.declared.stands.Event.TheVariants.{Tick, Drained, Refused, Joined, JoinFailed, Down, Up}
 use Rattle.online_mover.specs.declared.stands.Taken.{Taken}
-use Rattle.online_mover.specs.States.{State, with_server, server_of}
-use Rattle.online_mover.specs.Commands.{least_command, after_command}
+use Rattle.online_mover.specs.States.{State, with_server}
+use Rattle.online_mover.specs.Commands.{after_command}
 use Rattle.online_mover.specs.Events.{after_event, after_tick}
 use Rattle.online_mover.specs.Changes.{commanded}
 use Rattle.online_mover.specs.Steps.{Gives, IsStepFrom, IsStep}
 use Rattle.online_mover.proofs.Covers.{both}
-use Rattle.online_mover.proofs.Given.{none-some, some-same}
+use Rattle.online_mover.proofs.Given.{some-same}
 use Rattle.online_mover.proofs.Protection.{mapped}
 use Rattle.online_mover.proofs.NextCommands.{commanded-within}
 

@@ -50,6 +50,7 @@ fn copy_want(alloc: Global, want: &Want) -> Result<Want, AllocError>
         rack_limit: want.rack_limit,
         rack_weight: want.rack_weight,
         near: copy_near(alloc, &want.near)?,
+        protection: want.protection,
     })
 }
 

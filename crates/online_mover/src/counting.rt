@@ -1,17 +1,18 @@
-ghost use Rattle.std.specs.Prelude.{◌≡◌, ◌<◌, ◌≤◌, ◌^◌, IsTrue, IfOk, length, map, nat_lt, true, Some, None, slice_index_or};
+ghost use Rattle.std.specs.Prelude.{◌≡◌, ◌<◌, ◌≤◌, ◌^◌, IsTrue, IfOk, length, map, nat_lt, true, Some, None, slice_index, slice_index_or};
 ghost use Rattle.std.specs.Option.{option_map_or};
-ghost use Rattle.plan_model.specs.Units.{free_plan as free_plan_of, units as units_of, units_on_board as board_units_of};
-ghost use Rattle.plan_model.specs.Allowed.{keeps_need as keeps_need_of, survives_each_loss as survives_each_loss_of};
+ghost use Rattle.plan_model.specs.Units.{free_plan as free_plan_of, units as units_of, units_where};
+ghost use Rattle.plan_model.specs.Losses.{is_lost as is_lost_of};
+ghost use Rattle.plan_model.specs.Allowed.{keeps_need as keeps_need_of};
 ghost use Rattle.online_mover.specs.Without.{without};
 ghost use Rattle.std.specs.List.{list_all};
 ghost use Rattle.online_mover.specs.States.{server_in_range, counts_for as counts_for_of};
 ghost use Rattle.online_mover.specs.Sums.{with_count, Counted};
 
-use crate::reads::{board, need, value};
+use crate::reads::{place, value, want};
 use crate::servers::counts_for;
 use crate::stands::Server;
-use crate::sums::{Sums, lessen, raise, sums_of_none};
-use plan_model::{Assignment, Case, free_plan};
+use crate::sums::{Sums, entry, lessen, raise, sums_of_none};
+use plan_model::{Assignment, Case, Lost, free_plan, is_lost, loss_at, losses_named};
 use ras_table::List;
 use std::alloc::{AllocError, Global};
 use std::marker::Model;
@@ -53,9 +54,9 @@ impl Counting {
         ensures { self.new ≡ with_count self.old server None }
     {
         if let Some(r) = self.counts.of.as_slice()[server as usize] {
-            let board = board(&self.case, server);
+            let at = place(&self.case, server);
             let units = value(&self.case, r, server);
-            lessen(&mut self.sums, r, board, units);
+            lessen(&mut self.sums, r, at.board, at.center, units);
             self.counts.of.set(server, None);
         }
     }
@@ -67,9 +68,9 @@ impl Counting {
         requires free { slice_index_or self.old.counts.of server None ≡ None }
         ensures { self.new ≡ with_count self.old server (Some r) }
     {
-        let board = board(&self.case, server);
+        let at = place(&self.case, server);
         let units = value(&self.case, r, server);
-        raise(&mut self.sums, r, board, units);
+        raise(&mut self.sums, r, at.board, at.center, units);
         self.counts.of.set(server, Some(r));
     }
 
@@ -93,13 +94,17 @@ impl Counting {
         self.sums.as_slice()[r as usize].total
     }
 
-    // The units of reservation r on one switchboard.
-    fn units_on_board(&self, r: u32, at: u32) -> u64
-        requires in_range { r < length self.now.case.wants }
-        requires board { at < self.now.case.boards }
-        ensures { result ≡ board_units_of self.now.case self.now.counts r at }
+    // The units of reservation r that a loss takes.
+    fn units_lost(&self, r: u32, lost: Lost) -> u64
+        requires { r < length self.now.case.wants }
+        ensures { result ≡ units_where (is_lost_of lost) self.now.case self.now.counts r }
     {
-        self.sums.as_slice()[r as usize].boards[at as usize]
+        let sums = &self.sums.as_slice()[r as usize];
+        match lost {
+            Lost::Total => 0,
+            Lost::Board(board) => entry(&sums.boards, board),
+            Lost::Center(center) => entry(&sums.centers, center),
+        }
     }
 
     // The units of reservation r without one of its servers.
@@ -112,54 +117,19 @@ impl Counting {
         self.units(r) - value(&self.case, r, server)
     }
 
-    // The units of reservation r on one switchboard without one of its servers.
-    fn board_units_without(&self, r: u32, server: u32, at: u32) -> u64
+    // The units of reservation r that a loss takes, without one of its servers.
+    fn units_lost_without(&self, r: u32, server: u32, lost: Lost) -> u64
         requires in_range { r < length self.now.case.wants }
         requires there { server < length self.now.case.places }
         requires counts { slice_index_or self.now.counts.of server None ≡ Some r }
-        requires board { at < self.now.case.boards }
-        ensures { result ≡ board_units_of self.now.case (without self.now.counts server) r at }
+        ensures { result ≡ units_where (is_lost_of lost) self.now.case (without self.now.counts server) r }
     {
-        let all = self.units_on_board(r, at);
-        if board(&self.case, server) == at {
+        let all = self.units_lost(r, lost);
+        if is_lost(lost, &place(&self.case, server)) {
             all - value(&self.case, r, server)
         } else {
             all
         }
-    }
-
-    // Whether what reservation r needs is there after the loss of any one switchboard.
-    fn survives_each_loss(&self, r: u32) -> bool
-        requires { r < length self.now.case.wants }
-        ensures { result ≡ survives_each_loss_of self.now.case self.now.counts r }
-    {
-        let need = need(&self.case, r);
-        let all = self.units(r);
-        for board in 0..self.case.boards {
-            let lost = self.units_on_board(r, board);
-            if all - lost < need {
-                return false;
-            }
-        }
-        true
-    }
-
-    // The same without one of its servers.
-    fn survives_each_loss_without(&self, r: u32, server: u32) -> bool
-        requires in_range { r < length self.now.case.wants }
-        requires there { server < length self.now.case.places }
-        requires counts { slice_index_or self.now.counts.of server None ≡ Some r }
-        ensures { result ≡ survives_each_loss_of self.now.case (without self.now.counts server) r }
-    {
-        let need = need(&self.case, r);
-        let all = self.units_without(r, server);
-        for board in 0..self.case.boards {
-            let lost = self.board_units_without(r, server, board);
-            if all - lost < need {
-                return false;
-            }
-        }
-        true
     }
 
     /// Whether reservation r keeps its need.
@@ -167,7 +137,19 @@ impl Counting {
         requires { r < length self.now.case.wants }
         ensures { result ≡ keeps_need_of self.now.case self.now.counts r }
     {
-        need(&self.case, r) <= self.units(r) && self.survives_each_loss(r)
+        let want = want(&self.case, r);
+        let need = u64::from(want.need);
+        let all = self.units(r);
+        if all < need {
+            return false;
+        }
+        for number in 0..losses_named(&self.case, want.protection) {
+            let lost = self.units_lost(r, loss_at(want.protection, number));
+            if all - lost < need {
+                return false;
+            }
+        }
+        true
     }
 
     /// Whether reservation r keeps its need without one of its servers.
@@ -177,8 +159,19 @@ impl Counting {
         requires counts { slice_index_or self.now.counts.of server None ≡ Some r }
         ensures { result ≡ keeps_need_of self.now.case (without self.now.counts server) r }
     {
-        need(&self.case, r) <= self.units_without(r, server)
-            && self.survives_each_loss_without(r, server)
+        let want = want(&self.case, r);
+        let need = u64::from(want.need);
+        let all = self.units_without(r, server);
+        if all < need {
+            return false;
+        }
+        for number in 0..losses_named(&self.case, want.protection) {
+            let lost = self.units_lost_without(r, server, loss_at(want.protection, number));
+            if all - lost < need {
+                return false;
+            }
+        }
+        true
     }
 }
 

@@ -1,22 +1,22 @@
 ghost use Rattle.std.specs.Prelude.{◌≡◌, ◌<◌, length};
 ghost use Rattle.plan_model.specs.Units.{want_of, value_for, place_of};
 
-use plan_model::Case;
+use plan_model::{Case, Place, Want};
 
-/// What reservation r needs.
-pub(crate) fn need(case: &Case, r: u32) -> u64
+/// What is asked for reservation r.
+pub(crate) fn want(case: &Case, r: u32) -> &Want
     requires { r < length case.now.wants }
-    ensures { result ≡ (want_of case.now r).need }
+    ensures { result.now ≡ want_of case.now r }
 {
-    u64::from(case.wants.as_slice()[r as usize].need)
+    &case.wants.as_slice()[r as usize]
 }
 
-/// The switchboard of a server.
-pub(crate) fn board(case: &Case, server: u32) -> u32
+/// Where a server stands in the region.
+pub(crate) fn place(case: &Case, server: u32) -> Place
     requires { server < length case.now.places }
-    ensures { result ≡ (place_of case.now server).board }
+    ensures { result ≡ place_of case.now server }
 {
-    case.places.as_slice()[server as usize].board
+    case.places.as_slice()[server as usize]
 }
 
 /// The value of reservation r for a server's type.
@@ -25,9 +25,7 @@ pub(crate) fn value(case: &Case, r: u32, server: u32) -> u64
     requires there { server < length case.now.places }
     ensures { result ≡ value_for case.now r (place_of case.now server).kind }
 {
-    let kind = case.places.as_slice()[server as usize].kind;
-    let wants = case.wants.as_slice();
-    let want = &wants[r as usize];
-    let values = want.values.as_slice();
+    let kind = place(case, server).kind;
+    let values = want(case, r).values.as_slice();
     u64::from(values.get(kind as usize).copied().unwrap_or(0))
 }

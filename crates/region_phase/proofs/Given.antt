@@ -2,7 +2,7 @@
 use Rattle.std.proofs.Common.{◌≡◌, ℕ, zero, suc, ◌+◌, ◌<◌, Bool, true, false, cond, List, [], ◌∷◌, length, get_or, set, arith, ap, sym, ◌∙◌, refl, Some, None, ◌==◌, nat_lt}
 use Rattle.std.specs.Prelude.{Option, IsTrue, sum_by, zip, ◌&&◌, is_none, nat_le, ◌-◌}
 use Rattle.std.specs.Option.{option_map_or}
-use Rattle.std.specs.List.{list_all, range_with_len}
+use Rattle.std.specs.List.{list_all}
 use Rattle.std.proofs.lemmas.Bool.Decides.{nat_tests}
 use Rattle.std.proofs.lemmas.List.{length-set}
 use Rattle.std.proofs.lemmas.List.Sums.{sum_by-set}
@@ -11,8 +11,10 @@ use Rattle.std.proofs.lemmas.Slice.Zip.{get_or-zip, length-zip}
 use Rattle.plan_model.specs.declared.cases.Place.{Place}
 use Rattle.plan_model.specs.declared.cases.Case.{Case}
 use Rattle.plan_model.specs.declared.cases.Assignment.{Assignment}
-use Rattle.plan_model.specs.Units.{share_of, servers_with_places, units, units_on_board, value_for, want_of, place_of, no_place, server_with}
-use Rattle.plan_model.specs.Allowed.{fits, serves, keeps_need, survives_loss, survives_each_loss}
+use Rattle.plan_model.specs.Units.{share_of, servers_with_places, units, units_where, value_for, want_of, place_of, no_place, server_with}
+use Rattle.plan_model.specs.Allowed.{fits, serves, keeps_need, survives}
+use Rattle.plan_model.specs.Losses.{is_lost, losses}
+use Rattle.plan_model.specs.declared.losses.Lost.{Lost}
 use Rattle.plan_model.proofs.CaseFacts.{and-left, and-right}
 use Rattle.plan_model.proofs.SumLemmas.{sum_by-filter, length-fits}
 use Rattle.region_phase.specs.FirstPlan.{given, may_be_taken, is_next, next_server}
@@ -67,33 +69,31 @@ pub units-given : (case : Case) (a : Assignment) (s r q : ℕ) → IsTrue (fits 
     → units case (given a s r) q ≡ units case a q + cond (r == q) (value_for case q (place_of case s).kind) 0
 units-given case a s r q fitting within free = sum-given (share_of case q) case a s r fitting within free refl
 
-pub board-given : (case : Case) (a : Assignment) (s r q m : ℕ) → IsTrue (fits case a) → s < length case.places → get_or a.of s None ≡ None
-    → units_on_board case (given a s r) q m ≡ units_on_board case a q m + cond ((place_of case s).board == m) (cond (r == q) (value_for case q (place_of case s).kind) 0) 0
-board-given case a s r q m fitting within free =
+pub where-given : (test : Place → Bool) (case : Case) (a : Assignment) (s r q : ℕ) → IsTrue (fits case a) → s < length case.places → get_or a.of s None ≡ None
+    → units_where test case (given a s r) q ≡ units_where test case a q + cond (test (place_of case s)) (cond (r == q) (value_for case q (place_of case s).kind) 0) 0
+where-given test case a s r q fitting within free =
     omega (
       arith,
-      sum_by-filter (λ t. t.0.board == m) (share_of case q) (servers_with_places case a),
-      sum_by-filter (λ t. t.0.board == m) (share_of case q) (servers_with_places case (given a s r)),
-      sum-given (λ t. cond (t.0.board == m) (share_of case q t) 0) case a s r fitting within free (nothing-counts ((place_of case s).board == m)),
+      sum_by-filter (λ t. test t.0) (share_of case q) (servers_with_places case a),
+      sum_by-filter (λ t. test t.0) (share_of case q) (servers_with_places case (given a s r)),
+      sum-given (λ t. cond (test t.0) (share_of case q t) 0) case a s r fitting within free (nothing-counts (test (place_of case s))),
     )
 
--- another reservation keeps its need as before
+-- any other reservation keeps what it has, in all and after each loss
 pub other-keeps : (case : Case) (a : Assignment) (s r q : ℕ) → IsTrue (fits case a) → s < length case.places → get_or a.of s None ≡ None → (r == q) ≡ false
     → keeps_need case (given a s r) q ≡ keeps_need case a q
 other-keeps case a s r q fitting within free other =
     let none : cond (r == q) (value_for case q (place_of case s).kind) 0 ≡ 0 = ap (λ (b : Bool). let n : ℕ = cond b (value_for case q (place_of case s).kind) 0 in n) other in
     let all : units case (given a s r) q ≡ units case a q = omega (arith, units-given case a s r q fitting within free, none) in
-    let on : (m : ℕ) → units_on_board case (given a s r) q m ≡ units_on_board case a q m =
-    λ m. omega (
+    let lost : (lost : Lost) → units_where (is_lost lost) case (given a s r) q ≡ units_where (is_lost lost) case a q =
+    λ lost. omega (
       arith,
-      board-given case a s r q m fitting within free,
-      ap (λ (n : ℕ). let k : ℕ = cond ((place_of case s).board == m) n 0 in k) none,
-      nothing-counts ((place_of case s).board == m),
+      where-given (is_lost lost) case a s r q fitting within free,
+      ap (λ (n : ℕ). let k : ℕ = cond (is_lost lost (place_of case s)) n 0 in k) none,
+      nothing-counts (is_lost lost (place_of case s)),
     ) in
-    let losses : survives_each_loss case (given a s r) q ≡ survives_each_loss case a q =
-    list_all-same (survives_loss case (given a s r) q) (survives_loss case a q) (range_with_len 0 case.boards)
-    (λ m. let left : units case (given a s r) q - units_on_board case (given a s r) q m ≡ units case a q - units_on_board case a q m = omega (arith, all, on m) in ap (λ n. nat_le (want_of case q).need n) left) in
-    ap (λ n. nat_le (want_of case q).need n && survives_each_loss case (given a s r) q) all ∙ ap (λ b. nat_le (want_of case q).need (units case a q) && b) losses
+    list_all-same (survives case (given a s r) q) (survives case a q) (losses case q)
+    (λ l. ap (λ n. nat_le (want_of case q).need (n - units_where (is_lost l) case (given a s r) q)) all ∙ ap (λ n. nat_le (want_of case q).need (units case a q - n)) (lost l))
 
 pub given-fits : (case : Case) (a : Assignment) (s r : ℕ) → IsTrue (fits case a) → r < length case.wants → IsTrue (fits case (given a s r))
 given-fits case a s r fitting within =

@@ -1,22 +1,21 @@
 -- The first plan: servers are taken for one reservation after the other, until each keeps its need.
-use Rattle.std.specs.Prelude.{ℕ, zero, suc, Bool, true, not, ◌&&◌, ◌||◌, ◌==◌, ◌≡◌, ◌≤◌, ◌<◌, nat_lt, if◌then◌else◌, List, [], ◌∷◌, length, position, slice_set, Option, Some, None, is_none, option_and_then}
+use Rattle.std.specs.Prelude.{ℕ, zero, suc, Bool, true, not, ◌&&◌, ◌≡◌, ◌≤◌, ◌<◌, nat_lt, if◌then◌else◌, List, [], ◌∷◌, length, position, slice_set, Option, Some, None, is_none, option_and_then}
 use Rattle.std.specs.List.{list_all}
 use Rattle.plan_model.specs.declared.cases.Place.{Place}
 use Rattle.plan_model.specs.declared.cases.Case.{Case}
 use Rattle.plan_model.specs.declared.cases.Assignment.{Assignment}
-use Rattle.plan_model.specs.Units.{value_for, units_on_board, servers_with_places, all_reservations}
+use Rattle.plan_model.specs.Units.{value_for, servers_with_places, all_reservations}
 use Rattle.plan_model.specs.Allowed.{fits, keeps_need}
 use Rattle.region_phase.specs.Kept.{kept_plan}
+use Rattle.region_phase.specs.Ranks.{rank_of, is_before}
 
 -- whether a server may be taken for r: it is up, it has none, and its value is above 0
 abbrev pub may_be_taken : Case → ℕ → Place × Option ℕ → Bool
 may_be_taken case r s = s.0.up && is_none s.1 && nat_lt 0 (value_for case r s.0.kind)
 
--- whether a server is taken for r before another: its switchboard has fewer of r's units, or as many and its value is greater
+-- whether a server is taken for r before another
 abbrev pub goes_before : Case → Assignment → ℕ → Place → Place → Bool
-goes_before case a r s t =
-    nat_lt (units_on_board case a r s.board) (units_on_board case a r t.board)
-    || (units_on_board case a r s.board == units_on_board case a r t.board && nat_lt (value_for case r t.kind) (value_for case r s.kind))
+goes_before case a r s t = is_before (rank_of case a r s) (rank_of case a r t)
 
 -- whether a server may be taken, and no server that may be taken goes before it
 abbrev pub is_next : Case → Assignment → ℕ → Place × Option ℕ → Bool

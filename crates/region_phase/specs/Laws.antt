@@ -2,7 +2,9 @@
 use Rattle.std.specs.Prelude.{◌≡◌, [], ◌∷◌, refl, false, Some, None}
 use Rattle.plan_model.specs.declared.cases.Case.{Case}
 use Rattle.plan_model.specs.declared.cases.Holder.TheVariants.{Free, Held}
-use Rattle.plan_model.specs.Examples.{eight, two_racks, server, plain_want}
+use Rattle.ras_requests.specs.declared.requests.Protection.{Protection}
+use Rattle.ras_requests.specs.declared.requests.Protection.TheVariants.{Total, Board, Center}
+use Rattle.plan_model.specs.Examples.{eight, two_racks, server, plain_want, plain_moves}
 use Rattle.region_phase.specs.FirstPlan.{first_plan_of}
 
 -- eight servers on two switchboards, and a reservation of value 1 with another need
@@ -27,3 +29,26 @@ FirstPlansOfEight =
     × (first_plan_of eight ≡ Some two_racks)
     × (first_plan_of eight_for_five ≡ None)
     × (first_plan_of eight_held ≡ Some (record { of = Some 0 ∷ None ∷ None ∷ Some 0 ∷ Some 0 ∷ Some 0 ∷ None ∷ None ∷ [] }))
+
+-- four servers of one value, each on a switchboard of its own and two in each of two datacenters, for a need of 1 with a
+-- protection
+abbrev pub four_boards : Protection → Case
+four_boards protection = record {
+  places =
+      server 0 0 Free ∷ server 1 1 Free ∷ record (server 2 2 Free) { center = 1 } ∷ record (server 3 3 Free) { center = 1 } ∷ [];
+  kinds = 1;
+  racks = 4;
+  boards = 4;
+  centers = 2;
+  moves = plain_moves;
+  wants = record (plain_want 1 1) { protection = protection } ∷ [];
+  kept = refl;
+}
+
+-- protection none takes the first server, switchboard one of the next switchboard too, and datacenter one of the next
+-- datacenter
+abbrev pub FirstPlansByProtection : Type 0
+FirstPlansByProtection =
+    (first_plan_of (four_boards Total) ≡ Some (record { of = Some 0 ∷ None ∷ None ∷ None ∷ [] }))
+    × (first_plan_of (four_boards Board) ≡ Some (record { of = Some 0 ∷ Some 0 ∷ None ∷ None ∷ [] }))
+    × (first_plan_of (four_boards Center) ≡ Some (record { of = Some 0 ∷ None ∷ Some 0 ∷ None ∷ [] }))

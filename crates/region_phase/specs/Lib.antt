@@ -1,4 +1,5 @@
 pub mod Kept
+pub mod Ranks
 pub mod FirstPlan
 pub mod Sums
 pub mod Best

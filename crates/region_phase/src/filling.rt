@@ -5,7 +5,7 @@ ghost use Rattle.plan_model.specs.Units.{server_with, share_of};
 ghost use Rattle.region_phase.specs.FirstPlan.{filled, given};
 ghost use Rattle.region_phase.specs.Sums.{AreSums};
 
-use crate::reads::{need, place_at, value};
+use crate::reads::{place_at, value};
 use crate::sums::Sums;
 use crate::takes::next_server;
 use plan_model::{Assignment, Case};
@@ -33,7 +33,7 @@ fn sums_of(case: &Case, a: &Assignment, r: u32) -> Sums
 {
     let mut sums = Sums::none();
     for server in 0..case.places.len() {
-        sums.add(place_at(case, server).board, share(case, a, r, server));
+        sums.add(place_at(case, server), share(case, a, r, server));
     }
     sums
 }
@@ -50,7 +50,7 @@ fn give(case: &Case, r: u32, server: u32, a: &mut Assignment, sums: &mut Sums)
     ensures sums { AreSums case.now a.new r sums.new }
 {
     let place = place_at(case, server);
-    sums.add(place.board, value(case, r, place.kind));
+    sums.add(place, value(case, r, place.kind));
     a.of.set(server, Some(r));
 }
 
@@ -62,10 +62,9 @@ pub(crate) fn fill(case: &Case, r: u32, a: &mut Assignment) -> bool
     ensures filled { (if result then Some a.new else None) ≡ filled case.now r (length case.now.places) a.old }
     ensures fitting { IsTrue (fits case.now a.new) }
 {
-    let need = need(case, r);
     let mut sums = sums_of(case, a, r);
     for _taken in 0..case.places.len() {
-        if sums.keep(need, case.boards) {
+        if sums.keep(case, r) {
             return true;
         }
         let Some(server) = next_server(case, a, r, &sums) else {
@@ -73,5 +72,5 @@ pub(crate) fn fill(case: &Case, r: u32, a: &mut Assignment) -> bool
         };
         give(case, r, server, a, &mut sums);
     }
-    sums.keep(need, case.boards)
+    sums.keep(case, r)
 }

@@ -10,9 +10,11 @@ use std::alloc::{AllocError, Global};
 
 /// The first plan of a region, if there is one. It begins with each up server kept by the reservation that holds it, where
 /// it is worth something to it, and none elsewhere. Then for each reservation in file order: while it does not keep its
-/// need, it takes among the up servers that have none and are worth something to it one of the switchboard that has the
-/// fewest of its units, then of the greatest value, then the first in the file. There is no first plan where no such server
-/// is left. One pass over the servers for each server that is taken and for each reservation.
+/// need, it takes one of the up servers that have none and are worth something to it. With protection datacenter this is one
+/// of the datacenter that has the fewest of its units, and among these one of the switchboard that has the fewest; with
+/// protection switchboard it is one of the switchboard that has the fewest. Among these, and with protection none among all,
+/// it is one of the greatest value, then the first in the file. There is no first plan where no such server is left. One pass
+/// over the servers for each server that is taken and for each reservation.
 ///
 /// # Errors
 /// For want of memory.

@@ -1,5 +1,5 @@
 ghost use Rattle.region_phase.specs.FirstPlan.{MoreTakesChangeNothing};
-ghost use Rattle.region_phase.specs.Laws.{FirstPlansOfEight};
+ghost use Rattle.region_phase.specs.Laws.{FirstPlansByProtection, FirstPlansOfEight};
 
 /// No reservation of a first plan takes more servers than there are: the takes end where no server may be taken.
 pub fn more_takes_change_nothing()
@@ -9,4 +9,9 @@ pub fn more_takes_change_nothing()
 /// First plans for two switchboards of four servers each, computed.
 pub fn first_plans_of_eight()
     ensures { FirstPlansOfEight }
+{}
+
+/// First plans of four servers in two datacenters, one for each protection, computed.
+pub fn first_plans_by_protection()
+    ensures { FirstPlansByProtection }
 {}

@@ -4,12 +4,15 @@ ghost use Rattle.plan_model.specs.CaseRule.{holder_in_range};
 ghost use Rattle.plan_model.specs.Units.{place_of, value_for, want_of};
 
 use plan_model::{Case, Place};
+use ras_requests::Protection;
 
-/// The server of that number. Its switchboard is one of at most 64, and its holder, if it has one, is there.
+/// The server of that number. Its switchboard and its datacenter are of at most 64 each, and its holder, if it has one, is
+/// there.
 pub(crate) fn place_at(case: &Case, server: u32) -> &Place
     requires { server < length case.now.places }
     ensures place { result.now ≡ place_of case.now server }
     ensures board { result.now.board < 64 }
+    ensures center { result.now.center < 64 }
     ensures holder { IsTrue (holder_in_range (length case.now.wants) result.now.holder) }
 {
     &case.places.as_slice()[server as usize]
@@ -35,4 +38,12 @@ pub(crate) fn need(case: &Case, r: u32) -> u64
     ensures { result ≡ (want_of case.now r).need }
 {
     u64::from(case.wants.as_slice()[r as usize].need)
+}
+
+/// What reservation r is protected against.
+pub(crate) fn protection(case: &Case, r: u32) -> Protection
+    requires { r < length case.now.wants }
+    ensures { result ≡ (want_of case.now r).protection }
+{
+    case.wants.as_slice()[r as usize].protection
 }

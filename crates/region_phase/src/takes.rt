@@ -1,11 +1,12 @@
 //! The server that is taken next for a reservation.
 ghost use Rattle.std.specs.Prelude.{◌≡◌, ◌<◌, IsTrue, length};
 ghost use Rattle.plan_model.specs.Allowed.{fits};
-ghost use Rattle.region_phase.specs.Best.{best_of, better_of, candidate_of, is_before as is_before_of};
+ghost use Rattle.region_phase.specs.Best.{best_of, better_of, candidate_of};
 ghost use Rattle.region_phase.specs.FirstPlan.{next_server as next_server_of};
 ghost use Rattle.region_phase.specs.Sums.{AreSums};
 
-use crate::reads::{place_at, value};
+use crate::ranks::Rank;
+use crate::reads::{place_at, protection, value};
 use crate::sums::Sums;
 use plan_model::{Assignment, Case};
 
@@ -14,19 +15,8 @@ use plan_model::{Assignment, Case};
 pub(crate) struct Candidate {
     /// Its number.
     server: u32,
-    /// The units that the reservation has on its switchboard.
-    units: u64,
-    /// What it is worth to the reservation.
-    value: u32,
-}
-
-impl Candidate {
-    /// Whether it is taken before another: the units on its switchboard are fewer, or as many and its value is greater.
-    fn is_before(&self, other: &Candidate) -> bool
-        ensures { result ≡ is_before_of self.now other.now }
-    {
-        self.units < other.units || (self.units == other.units && self.value > other.value)
-    }
+    /// What decides between it and another.
+    rank: Rank,
 }
 
 /// The server of that number as a candidate, where it is up, has none and is worth something to reservation r.
@@ -40,11 +30,10 @@ fn candidate_at(case: &Case, a: &Assignment, r: u32, sums: &Sums, server: u32) -
     let place = place_at(case, server);
     let value = value(case, r, place.kind);
     if place.up && a.of.as_slice()[server as usize].is_none() && value > 0 {
-        Some(Candidate {
-            server,
-            units: sums.on[place.board as usize],
-            value,
-        })
+        let in_center = sums.in_center[place.center as usize];
+        let on_board = sums.on_board[place.board as usize];
+        let rank = Rank::by(protection(case, r), in_center, on_board, value);
+        Some(Candidate { server, rank })
     } else {
         None
     }
@@ -57,7 +46,7 @@ fn better(earlier: Option<Candidate>, later: Option<Candidate>) -> Option<Candid
     match (earlier, later) {
         (_, None) => earlier,
         (None, Some(_)) => later,
-        (Some(first), Some(second)) => if second.is_before(&first) {
+        (Some(first), Some(second)) => if second.rank.is_before(&first.rank) {
             later
         } else {
             earlier
@@ -65,9 +54,8 @@ fn better(earlier: Option<Candidate>, later: Option<Candidate>) -> Option<Candid
     }
 }
 
-/// The server that is taken next for reservation r: among those that are up, have none and are worth something to it, one
-/// of the switchboard that has the fewest of its units, then of the greatest value, then the first. One pass over the
-/// servers.
+/// The server that is taken next for reservation r: of those that are up, have none and are worth something to it, the first
+/// that no other goes before. One pass over the servers.
 pub(crate) fn next_server(case: &Case, a: &Assignment, r: u32, sums: &Sums) -> Option<u32>
     requires fitting { IsTrue (fits case.now a.now) }
     requires in_range { r < length case.now.wants }

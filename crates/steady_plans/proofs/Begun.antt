@@ -1,6 +1,6 @@
 -- An assignment of which the first servers have their places, and the others none.
-use Rattle.std.proofs.Common.{◌≡◌, ℕ, zero, suc, set, ◌+◌, ◌<◌, ◌≤◌, ◌*◌, ◌==◌, Bool, true, false, cond, List, [], ◌∷◌, length, get_or, replicate, arith, ap, sym, ◌∙◌, refl, Some, None}
-use Rattle.std.specs.Prelude.{Option, sum_by, filter, zip}
+use Rattle.std.proofs.Common.{◌≡◌, ℕ, zero, suc, set, ◌+◌, ◌<◌, ◌≤◌, ◌*◌, ◌==◌, Bool, true, false, cond, List, [], ◌∷◌, length, get_or, replicate, arith, ap, sym, ◌∙◌, refl, None}
+use Rattle.std.specs.Prelude.{Option, sum_by, zip}
 use Rattle.std.proofs.lemmas.List.{get_or-replicate, length-replicate}
 use Rattle.std.proofs.lemmas.List.Sums.{sum_by-cons}
 use Rattle.plan_model.specs.declared.cases.Place.{Place}

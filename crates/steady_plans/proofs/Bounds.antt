@@ -1,18 +1,15 @@
 -- How large sums are, and where a server stands.
-use Rattle.std.proofs.Common.{◌≡◌, ℕ, ◌+◌, ◌*◌, ◌<◌, ◌≤◌, ◌==◌, Bool, true, false, cond, List, length, get_or, arith, ap, sym, ◌∙◌, refl, Some, None}
-use Rattle.std.specs.Prelude.{sum_by, Option}
+use Rattle.std.proofs.Common.{◌≡◌, ℕ, ◌+◌, ◌*◌, ◌<◌, ◌≤◌, ◌==◌, Bool, true, false, cond, List, length, get_or, arith}
 use Rattle.std.proofs.lemmas.List.Sums.{sum_by-le}
 use Rattle.std.proofs.lemmas.Slice.Zip.{length-zip}
 use Rattle.std.proofs.lemmas.Bool.Decides.{nat_tests}
 use Rattle.plan_model.specs.declared.cases.Place.{Place}
 use Rattle.plan_model.specs.declared.cases.Case.{Case}
 use Rattle.plan_model.specs.declared.cases.Assignment.{Assignment}
-use Rattle.plan_model.specs.CaseRule.{place_in_range}
-use Rattle.plan_model.specs.Units.{share_of, units, units_where, servers_with_places, value_for, is_for, place_of, no_place}
+use Rattle.plan_model.specs.Units.{share_of, units, servers_with_places, value_for, is_for, place_of}
 use Rattle.plan_model.proofs.SumLemmas.{value-most, few-places, sum_by-filter-le}
-use Rattle.plan_model.proofs.CaseFacts.{few-wants, few-boards}
-use Rattle.steady_plans.specs.Tables.{IsTable, AreSumsOf, one_part}
-use Rattle.steady_plans.specs.declared.sums.Sums.{Sums}
+use Rattle.plan_model.proofs.CaseFacts.{few-wants}
+use Rattle.steady_plans.specs.Tables.{IsTable}
 use Rattle.steady_plans.proofs.Costs.{place-in_range}
 
 amount-most : (b : Bool) (n : ℕ) → n ≤ 1000 → cond b n 0 ≤ 1000

@@ -1,12 +1,12 @@
 -- One server changes: the units of the reservations, and the tables of them.
-use Rattle.std.proofs.Common.{◌≡◌, ℕ, set, ◌+◌, ◌-◌, ◌*◌, ◌<◌, ◌≤◌, ◌==◌, Bool, true, false, cond, List, length, get_or, arith, ap, sym, ◌∙◌, refl, Some, None}
-use Rattle.std.specs.Prelude.{sum_by, filter, Option}
+use Rattle.std.proofs.Common.{◌≡◌, ℕ, set, ◌+◌, ◌-◌, ◌*◌, ◌<◌, ◌==◌, Bool, true, false, cond, List, length, get_or, arith, ap, sym, ◌∙◌, refl, Some, None}
+use Rattle.std.specs.Prelude.{sum_by, Option}
 use Rattle.std.proofs.lemmas.List.{set-set, set-get_or, length-set}
 use Rattle.std.proofs.lemmas.Bool.{eqb-true}
 use Rattle.plan_model.specs.declared.cases.Place.{Place}
 use Rattle.plan_model.specs.declared.cases.Case.{Case}
 use Rattle.plan_model.specs.declared.cases.Assignment.{Assignment}
-use Rattle.plan_model.specs.Units.{share_of, units, units_where, servers_with_places, server_with, place_of, no_place, value_for, is_for}
+use Rattle.plan_model.specs.Units.{share_of, units, units_where, servers_with_places, server_with, place_of, no_place, value_for}
 use Rattle.plan_model.proofs.SumLemmas.{sum_by-filter}
 use Rattle.steady_plans.specs.Steady.{replaced}
 use Rattle.steady_plans.specs.Tables.{IsTable, one_part}

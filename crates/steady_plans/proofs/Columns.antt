@@ -1,25 +1,22 @@
 -- What the tables say of one reservation's terms and need.
-use Rattle.std.proofs.Common.{◌≡◌, ℕ, zero, suc, ◌+◌, ◌-◌, ◌*◌, ◌<◌, ◌≤◌, ◌==◌, Bool, true, false, cond, List, [], ◌∷◌, ◌++◌, length, get_or, arith, ap, sym, ◌∙◌, refl, Some, None}
-use Rattle.std.specs.Prelude.{Option, map, sum_by, ◌&&◌, nat_le, nat_lt}
+use Rattle.std.proofs.Common.{◌≡◌, ℕ, zero, suc, ◌+◌, ◌-◌, ◌*◌, ◌<◌, ◌==◌, true, List, [], ◌∷◌, ◌++◌, length, arith, ap, sym, ◌∙◌, refl, Some, None}
+use Rattle.std.specs.Prelude.{Option, map, sum_by, nat_lt}
 use Rattle.std.specs.List.{list_all, range_with_len}
 use Rattle.std.specs.Option.{option_map_or}
 use Rattle.std.proofs.lemmas.List.FromFn.{map-range_with_len_more}
 use Rattle.std.proofs.lemmas.List.Sums.{sum_by-cons}
-use Rattle.std.proofs.lemmas.List.Recursion.{and_push}
 use Rattle.plan_model.specs.declared.cases.Place.{Place}
 use Rattle.plan_model.specs.declared.cases.Goal.{Goal}
 use Rattle.plan_model.specs.declared.cases.Want.{Want}
 use Rattle.plan_model.specs.declared.cases.Case.{Case}
 use Rattle.plan_model.specs.declared.cases.Assignment.{Assignment}
 use Rattle.plan_model.specs.CaseRule.{goal_in_range}
-use Rattle.plan_model.specs.Units.{units, units_where, units_on_board, units_on_rack, units_in_center, want_of}
-use Rattle.plan_model.specs.Allowed.{keeps_need, survives_loss}
+use Rattle.plan_model.specs.Units.{units, units_where, units_on_rack, units_in_center, want_of}
 use Rattle.plan_model.specs.Costs.{greatest, excess, board_units, shortage_cost, terms_cost}
 use Rattle.plan_model.proofs.CaseFacts.{near-in_range, and-left, and-right}
-use Rattle.plan_model.proofs.NumberLemmas.{range_more}
 use Rattle.std.proofs.lemmas.Bool.Decides.{nat_tests}
 use Rattle.steady_plans.specs.declared.sums.Sums.{Sums}
-use Rattle.steady_plans.specs.Tables.{IsTable, AreSumsOf, cell, column, shortage_by, one_part}
+use Rattle.steady_plans.specs.Tables.{IsTable, AreSumsOf, cell, column, shortage_by}
 use Rattle.steady_plans.proofs.Changes.{units-of_all}
 use Rattle.steady_plans.proofs.Bounds.{reservation-small}
 
@@ -33,17 +30,6 @@ map-range_same f g (suc n) h =
     ∙ ap (λ y. map g (range_with_len 0 n) ++ y ∷ []) (h n (omega arith))
     ∙ sym (map-range_with_len_more g 0 n n (omega arith))
     ∙ ap (λ k. map g (range_with_len 0 k)) (sym one)
-
-all-range_same : (f g : ℕ → Bool) (n : ℕ) → ((k : ℕ) → k < n → f k ≡ g k) → list_all f (range_with_len 0 n) ≡ list_all g (range_with_len 0 n)
-all-range_same f g zero h = refl
-all-range_same f g (suc n) h =
-    let one : suc n ≡ n + 1 = omega arith in
-    ap (λ k. list_all f (range_with_len 0 k)) one
-    ∙ ap (list_all f) (range_more n) ∙ and_push (list_all f) f refl (λ _ _. refl) (range_with_len 0 n) n
-    ∙ ap (λ b. b && f n) (all-range_same f g n (λ k less. h k (omega arith)))
-    ∙ ap (λ b. list_all g (range_with_len 0 n) && b) (h n (omega arith))
-    ∙ sym (ap (list_all g) (range_more n) ∙ and_push (list_all g) g refl (λ _ _. refl) (range_with_len 0 n) n)
-    ∙ ap (λ k. list_all g (range_with_len 0 k)) (sym one)
 
 pub column-is : (case : Case) (a : Assignment) (number : Place → ℕ) (count : ℕ) (cells : List ℕ) → IsTable case a number count cells → (r : ℕ) → r < 64
     → column cells r count ≡ map (λ n. units_where (λ s. number s == n) case a r) (range_with_len 0 count)
@@ -98,13 +84,3 @@ module _ (case : Case) (a : Assignment) (sums : Sums) (are : AreSumsOf case a su
   total-is cells same =
       let one : 0 < 1 = omega arith in
       ap (λ (xs : List ℕ). cell xs 0 r) same ∙ are.all.counted 0 r one small ∙ units-of_all case a r
-
-  -- the losses, by what was read of the tables
-  pub losses-are : (cells : List ℕ) (all need : ℕ) → cells ≡ sums.boards.items → all ≡ units case a r → need ≡ (want_of case r).need
-      → list_all (λ m. nat_le need (all - cell cells m r)) (range_with_len 0 case.boards) ≡ list_all (survives_loss case a r) (range_with_len 0 case.boards)
-  losses-are cells all need same total is =
-      all-range_same (λ m. nat_le need (all - cell cells m r)) (survives_loss case a r) case.boards
-      (λ m within.
-      ap (λ n. nat_le n (all - cell cells m r)) is
-      ∙ ap (λ n. nat_le (want_of case r).need (n - cell cells m r)) total
-      ∙ ap (λ n. nat_le (want_of case r).need (units case a r - n)) (ap (λ (xs : List ℕ). cell xs m r) same ∙ are.boards.counted m r within small))

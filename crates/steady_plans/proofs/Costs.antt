@@ -1,16 +1,17 @@
 -- What a phase costs once one server gets a reservation in place of none.
-use Rattle.std.proofs.Common.{◌≡◌, ℕ, ◌+◌, ◌-◌, ◌*◌, ◌<◌, ◌≤◌, ◌==◌, Bool, true, false, cond, List, length, get_or, arith, ap, sym, ◌∙◌, refl, Some, None}
-use Rattle.std.specs.Prelude.{sum_by, map, Option, ◌&&◌, nat_le}
-use Rattle.std.specs.List.{list_any, list_all, range_with_len}
+use Rattle.std.proofs.Common.{◌≡◌, ℕ, ◌+◌, ◌-◌, ◌*◌, ◌<◌, ◌==◌, Bool, true, false, cond, length, get_or, arith, ap, sym, ◌∙◌, refl, Some, None}
+use Rattle.std.specs.Prelude.{sum_by, Option, ◌&&◌, nat_le}
+use Rattle.std.specs.List.{range_with_len}
 use Rattle.std.specs.Option.{option_map_or}
 use Rattle.std.proofs.lemmas.Bool.Decides.{nat_tests}
 use Rattle.plan_model.specs.declared.cases.Place.{Place}
 use Rattle.plan_model.specs.declared.cases.Goal.{Goal}
 use Rattle.plan_model.specs.declared.cases.Case.{Case}
 use Rattle.plan_model.specs.declared.cases.Assignment.{Assignment}
-use Rattle.plan_model.specs.Units.{units_where, units, servers_with_places, server_with, place_of, no_place, want_of, value_for, units_on_board, units_on_rack, units_in_center, all_reservations}
-use Rattle.plan_model.specs.Allowed.{keeps_need, survives_loss}
-use Rattle.plan_model.specs.Costs.{move_cost, terms_cost, board_units, rack_units, greatest, excess, shortage_cost, region_cost, rack_excess}
+use Rattle.plan_model.specs.Units.{units_where, units, server_with, place_of, no_place, want_of, value_for, units_on_board, units_on_rack, units_in_center, all_reservations}
+use Rattle.plan_model.specs.Allowed.{keeps_need, survives}
+use Rattle.plan_model.specs.Losses.{is_lost, losses}
+use Rattle.plan_model.specs.Costs.{move_cost, terms_cost, board_units, greatest, excess, shortage_cost, rack_excess}
 use Rattle.plan_model.specs.CaseRule.{place_in_range}
 use Rattle.plan_model.proofs.CaseFacts.{list_all-at, and-left, and-right}
 use Rattle.program_rows.specs.Settings.{Setting}
@@ -50,10 +51,9 @@ pub keeps-same : (case : Case) (a b : Assignment) (r : ℕ) → HaveSameUnits ca
 keeps-same case a b r same =
     let need = (want_of case r).need in
     let total : units case a r ≡ units case b r = sym (units-of_all case a r) ∙ same (λ s. 0 == 0) ∙ units-of_all case b r in
-    let losses : list_all (survives_loss case a r) (range_with_len 0 case.boards) ≡ list_all (survives_loss case b r) (range_with_len 0 case.boards) =
-    all-same (survives_loss case a r) (survives_loss case b r) (λ m. ap (λ n. nat_le need (n - units_on_board case a r m)) total ∙ ap (λ n. nat_le need (units case b r - n)) (same (λ s. s.board == m))) (range_with_len 0 case.boards) in
-    ap (λ n. nat_le need n && list_all (survives_loss case a r) (range_with_len 0 case.boards)) total
-    ∙ ap (λ x. nat_le need (units case b r) && x) losses
+    all-same (survives case a r) (survives case b r)
+    (λ lost. ap (λ n. nat_le need (n - units_where (is_lost lost) case a r)) total ∙ ap (λ n. nat_le need (units case b r - n)) (same (is_lost lost)))
+    (losses case r)
 
 -- how often a number stands in a range, and an active reservation among the active ones
 cond-times : (n m : ℕ) (b : Bool) → n ≡ cond b 1 0 → n * m ≡ cond b m 0

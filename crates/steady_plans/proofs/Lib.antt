@@ -11,3 +11,4 @@ pub mod Starts
 pub mod Columns
 pub mod Writes
 pub mod Twins
+pub mod Needs

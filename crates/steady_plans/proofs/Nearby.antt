@@ -1,5 +1,5 @@
 -- An assignment that differs from another at one server is that other one with another place there.
-use Rattle.std.proofs.Common.{◌≡◌, ◌≢◌, ℕ, set, ◌<◌, ◌≤◌, Bool, true, false, List, length, get_or, arith, ap, sym, ◌∙◌, refl, Some, None, subst}
+use Rattle.std.proofs.Common.{◌≡◌, ℕ, set, ◌<◌, ◌≤◌, Bool, true, false, List, length, get_or, arith, ap, sym, ◌∙◌, refl, None, subst}
 use Rattle.std.specs.Prelude.{Option, ◌==◌, IsTrue}
 use Rattle.std.proofs.lemmas.List.{ext_get_or, get_or-set_other, length-set}
 use Rattle.std.proofs.lemmas.Grind.{get_or-set_at}
@@ -11,7 +11,7 @@ use Rattle.plan_model.proofs.SumLemmas.{length-fits}
 use Rattle.plan_model.proofs.CaseFacts.{and-left}
 use Rattle.program_rows.specs.Settings.{Setting}
 use Rattle.program_rows.specs.Phases.{phase_allowed, phase_cost}
-use Rattle.steady_plans.specs.Steady.{replaced, IsSteady, DifferAtMostAt, SteadyIsLeastNearby}
+use Rattle.steady_plans.specs.Steady.{replaced, DifferAtMostAt, SteadyIsLeastNearby}
 
 -- an assignment that a phase allows fits
 pub allowed-fits : (case : Case) (setting : Setting) (a : Assignment) → phase_allowed case setting a ≡ true → IsTrue (fits case a)

@@ -1,6 +1,6 @@
 -- The next place of one server, and when it is settled.
-use Rattle.std.proofs.Common.{◌≡◌, ◌⊎◌, inl, inr, ℕ, set, ◌+◌, ◌<◌, ◌≤◌, Bool, true, false, length, get_or, arith, ap, sym, ◌∙◌, refl, Some, None, subst}
-use Rattle.std.specs.Prelude.{Option, nat_lt, IsTrue, ◌||◌}
+use Rattle.std.proofs.Common.{◌≡◌, ◌⊎◌, inl, inr, ℕ, ◌+◌, ◌<◌, ◌≤◌, Bool, true, false, length, get_or, arith, ap, sym, ◌∙◌, refl, Some, None, subst}
+use Rattle.std.specs.Prelude.{Option, nat_lt, ◌||◌}
 use Rattle.std.proofs.Common.{below_more}
 use Rattle.std.proofs.lemmas.Grind.{get_or-set_at}
 use Rattle.std.specs.Option.{option_map_or}
@@ -8,10 +8,9 @@ use Rattle.std.proofs.lemmas.Bool.Decides.{nat_tests}
 use Rattle.plan_model.specs.declared.cases.Case.{Case}
 use Rattle.plan_model.specs.declared.cases.Assignment.{Assignment}
 use Rattle.plan_model.specs.Units.{server_with}
-use Rattle.plan_model.specs.Allowed.{fits, keeps_need}
+use Rattle.plan_model.specs.Allowed.{keeps_need}
 use Rattle.plan_model.specs.Rack.{is_movable}
-use Rattle.plan_model.proofs.SumLemmas.{length-fits}
-use Rattle.plan_model.proofs.CaseFacts.{list_all-at, and-left, and-right}
+use Rattle.plan_model.proofs.CaseFacts.{list_all-at, and-right}
 use Rattle.program_rows.specs.Settings.{Setting}
 use Rattle.program_rows.specs.Phases.{IsStart, phase_allowed, phase_cost}
 use Rattle.steady_plans.specs.Steady.{replaced, IsSettledAt}
@@ -97,6 +96,17 @@ each-step case setting first before after s true false less same lower stays = (
 each-step case setting first before after s false true less same lower stays = (λ _. let one = lower refl in let two = ap (λ (x : Assignment). phase_cost case setting x) (same refl).0 in omega (arith, one, two), λ e. cc)
 each-step case setting first before after s false false less same lower stays =
     (λ e. cc, λ _. ((stays refl).0 ∙ (same refl).0, settled-more case setting first s (same refl).1 (subst (λ (x : Assignment). IsSettledAt case setting x s) (same refl).0 (stays refl).1)))
+
+-- the servers that are settled since the last change, one server on
+pub first-step : (case : Case) (setting : Setting) (before after : Assignment) (first next s : ℕ) (n : Bool) → (n ≡ true → next ≡ s + 1) → (n ≡ false → next ≡ first)
+    → (n ≡ false → (after ≡ before) × IsSettledAt case setting before s)
+    → ((t : ℕ) → first ≤ t → t < s → IsSettledAt case setting before t)
+    → (t : ℕ) → next ≤ t → t < s + 1 → IsSettledAt case setting after t
+first-step case setting before after first next s true moved kept stays known t low high = let past = moved refl in absurd (omega (arith, past, low, high))
+first-step case setting before after first next s false moved kept stays known t low high =
+    let same = kept refl in
+    subst (λ (x : Assignment). IsSettledAt case setting x t) (sym (stays refl).0)
+    (below_more (λ k. first ≤ k → IsSettledAt case setting before k) s (λ k within from. known k from within) (λ _. (stays refl).1) t high (omega (arith, same, low)))
 
 pub other-less : (case : Case) (setting : Setting) (a : Assignment) (s : ℕ) (o next : Option ℕ) → (next ≡ o) ⊎ (phase_cost case setting (replaced a s next) < phase_cost case setting a) → (next ≡ o → ⊥)
     → phase_cost case setting (replaced a s next) < phase_cost case setting a

@@ -1,25 +1,26 @@
 -- Which places of one server a phase allows.
-use Rattle.std.proofs.Common.{◌≡◌, ℕ, set, ◌+◌, ◌-◌, ◌<◌, ◌≤◌, ◌==◌, Bool, true, false, cond, List, [], ◌∷◌, length, get_or, arith, ap, sym, ◌∙◌, refl, Some, None, subst, zero-add}
+use Rattle.std.proofs.Common.{◌≡◌, ℕ, set, ◌+◌, ◌-◌, ◌<◌, ◌≤◌, ◌==◌, Bool, true, false, cond, List, length, get_or, arith, ap, sym, ◌∙◌, refl, Some, None, subst}
 use Rattle.std.specs.Prelude.{zip, Option, ◌&&◌, nat_le, nat_lt, nat_eq, IsTrue}
-use Rattle.std.specs.List.{list_all, list_any, range_with_len}
+use Rattle.std.specs.List.{list_all, range_with_len}
 use Rattle.std.specs.Option.{option_map_or, option_eq}
 use Rattle.std.proofs.lemmas.List.{length-set}
 use Rattle.std.proofs.lemmas.Grind.{get_or-set_at}
 use Rattle.std.proofs.lemmas.List.Recursion.{and_set}
 use Rattle.std.proofs.lemmas.Slice.Zip.{get_or-zip, length-zip}
 use Rattle.std.proofs.lemmas.Bool.{eqb-true, eq-eqb}
-use Rattle.std.proofs.lemmas.List.FromFn.{length-range_with_len, get_or-range_with_len}
 use Rattle.std.proofs.lemmas.Bool.Decides.{nat_tests}
 use Rattle.plan_model.specs.declared.cases.Place.{Place}
 use Rattle.plan_model.specs.declared.cases.Case.{Case}
 use Rattle.plan_model.specs.declared.cases.Assignment.{Assignment}
-use Rattle.plan_model.specs.Units.{units, units_on_board, servers_with_places, server_with, place_of, no_place, want_of, value_for}
-use Rattle.plan_model.specs.Allowed.{fits, serves, keeps_need, survives_loss, region_allowed}
+use Rattle.plan_model.specs.Units.{units, units_where, servers_with_places, server_with, place_of, no_place, want_of, value_for}
+use Rattle.plan_model.specs.Allowed.{fits, serves, keeps_need, region_allowed}
+use Rattle.plan_model.specs.Losses.{is_lost, loss_at}
 use Rattle.plan_model.specs.Rack.{is_movable, none_or_in, keeps_to_chosen}
+use Rattle.plan_model.proofs.AllowedLaws.{list_all-range_at, keeps-total, keeps-survives, keeps-from}
 use Rattle.plan_model.proofs.SumLemmas.{length-fits}
 use Rattle.plan_model.proofs.CaseFacts.{list_all-at, and-left, and-right}
 use Rattle.program_rows.specs.Settings.{Setting}
-use Rattle.program_rows.specs.Phases.{IsStart, is_active, phase_allowed}
+use Rattle.program_rows.specs.Phases.{IsStart, phase_allowed}
 use Rattle.program_rows.proofs.RangeSums.{list_all-range}
 use Rattle.steady_plans.specs.Steady.{replaced}
 use Rattle.steady_plans.specs.Local.{may_take}
@@ -37,21 +38,11 @@ option_eq-true (Some x) (Some y) h = ap (λ z. Some z) (eqb-true x y h)
 option_eq-true None (Some y) h = cc
 option_eq-true (Some x) None h = cc
 
--- what holds of all numbers below n holds of one
-range_at : (test : ℕ → Bool) (n i : ℕ) → list_all test (range_with_len 0 n) ≡ true → i < n → test i ≡ true
-range_at test n i all within =
-    let read : get_or (range_with_len 0 n) i 0 ≡ i = get_or-range_with_len 0 n i 0 within ∙ zero-add i in
-    let inside : i < length (range_with_len 0 n) = omega (arith, length-range_with_len 0 n) in
-    sym (ap test read) ∙ list_all-at test (range_with_len 0 n) i 0 inside all
-
 -- a test of all elements, where one of them changes to one that passes
 all-set : {X : Type 0} (test : X → Bool) (xs : List X) (i : ℕ) (y : X) → test y ≡ true → list_all test xs ≡ true → list_all test (set xs i y) ≡ true
 all-set test xs i y here all = and_set (list_all test) test refl (λ _ _. refl) xs i y here all
 
 -- ---- the needs
-
-more-left : (need total more board here : ℕ) → here ≤ more → need ≤ total - board → need ≤ total + more - (board + here)
-more-left need total more board here less enough = omega (arith, less, enough)
 
 cond-most : (b : Bool) (n : ℕ) → cond b n 0 ≤ n
 cond-most true n = omega arith
@@ -73,15 +64,14 @@ keeps-more case b s r size within none keeps =
     let more : ℕ = cond (r == r) (value_for case r p.kind) 0 in
     let total : units case c r ≡ units case b r + more =
     sym (units-of_all case c r) ∙ gets-units (λ t. 0 == 0) case b s r r size within none ∙ ap (λ n. n + more) (units-of_all case b r) in
-    let enough = nat_le-of need (units case b r) (and-left _ _ keeps) in
-    both (nat_le need (units case c r)) (list_all (survives_loss case c r) (range_with_len 0 case.boards))
-    (nat_le-from need (units case c r) (omega (arith, total, enough)))
-    (list_all-range (survives_loss case c r) case.boards
-    (λ m there.
-    let board = gets-units (λ t. t.board == m) case b s r r size within none in
-    let left = nat_le-of need (units case b r - units_on_board case b r m) (range_at (survives_loss case b r) case.boards m (and-right _ _ keeps) there) in
-    let fewer = cond-most (p.board == m) more in
-    nat_le-from need (units case c r - units_on_board case c r m) (omega (arith, total, board, left, fewer))))
+    let enough = nat_le-of need (units case b r) (keeps-total case b r keeps) in
+    keeps-from case c r (omega (arith, total, enough))
+    (λ number there.
+    let lost = is_lost (loss_at (want_of case r).protection number) in
+    let gone = gets-units lost case b s r r size within none in
+    let left = nat_le-of need (units case b r - units_where lost case b r) (keeps-survives case b r number keeps there) in
+    let fewer = cond-most (lost p) more in
+    omega (arith, total, gone, left, fewer))
 
 module _ (case : Case) (setting : Setting) (start : IsStart case setting) (a : Assignment) (allowed : phase_allowed case setting a ≡ true) (s : ℕ) (within : s < length case.places) where
   abbrev p : Place
@@ -106,7 +96,7 @@ module _ (case : Case) (setting : Setting) (start : IsStart case setting) (a : A
   bare-none = get_or-set_at a.of s s None None refl (omega (arith, size, within))
 
   a-keeps : (q : ℕ) → q < length case.wants → keeps_need case a q ≡ true
-  a-keeps q there = range_at (keeps_need case a) (length case.wants) q (and-right _ _ (and-left _ _ allowed)) there
+  a-keeps q there = list_all-range_at (keeps_need case a) (length case.wants) q (and-right _ _ (and-left _ _ allowed)) there
 
   back : (to : Option ℕ) → replaced bare s to ≡ replaced a s to
   back to = replaced-twice a s None to
@@ -226,7 +216,7 @@ module _ (case : Case) (setting : Setting) (start : IsStart case setting) (a : A
   -- where the reservation that has the server needs it, the server stays
   pub needed : (r : ℕ) (to : Option ℕ) → from ≡ Some r → r < length case.wants → keeps_need case bare r ≡ false → phase_allowed case setting (replaced a s to) ≡ true → to ≡ Some r
   needed r None is there lacks good =
-      let keeps : keeps_need case bare r ≡ true = range_at (keeps_need case bare) (length case.wants) r (and-right _ _ (and-left _ _ good)) there in
+      let keeps : keeps_need case bare r ≡ true = list_all-range_at (keeps_need case bare) (length case.wants) r (and-right _ _ (and-left _ _ good)) there in
       let clash : true ≡ false = sym keeps ∙ lacks in
       cc
   needed r (Some q) is there lacks good = by (q == r) refl
@@ -234,7 +224,7 @@ module _ (case : Case) (setting : Setting) (start : IsStart case setting) (a : A
       by : (b : Bool) → (q == r) ≡ b → ◌≡◌ {A = Option ℕ} (Some q) (Some r)
       by true e = ap (λ z. Some z) (eqb-true q r e)
       by false e =
-          let keeps : keeps_need case (replaced a s (Some q)) r ≡ true = range_at (keeps_need case (replaced a s (Some q))) (length case.wants) r (and-right _ _ (and-left _ _ good)) there in
+          let keeps : keeps_need case (replaced a s (Some q)) r ≡ true = list_all-range_at (keeps_need case (replaced a s (Some q))) (length case.wants) r (and-right _ _ (and-left _ _ good)) there in
           let same = keeps-same case (replaced bare s (Some q)) bare r (others-same case bare s q bare-size within bare-none r e) in
           let bare_keeps : keeps_need case bare r ≡ true = sym same ∙ ap (λ (x : Assignment). keeps_need case x r) (back (Some q)) ∙ keeps in
           let clash : true ≡ false = sym bare_keeps ∙ lacks in

@@ -10,7 +10,7 @@ use Rattle.plan_model.specs.Units.{place_of}
 use Rattle.plan_model.specs.Costs.{move_cost}
 use Rattle.plan_model.proofs.CaseFacts.{and-left}
 use Rattle.program_rows.specs.Settings.{Setting}
-use Rattle.program_rows.specs.Phases.{IsStart, is_active, phase_cost}
+use Rattle.program_rows.specs.Phases.{IsStart, phase_cost}
 use Rattle.steady_plans.specs.declared.moves.Choice.{Choice}
 use Rattle.steady_plans.specs.Steady.{replaced}
 use Rattle.steady_plans.specs.Local.{local_cost, IsPrice, may_take}

@@ -1,5 +1,5 @@
 -- What a phase starts from.
-use Rattle.std.proofs.Common.{◌≡◌, ℕ, zero, suc, ◌+◌, ◌<◌, ◌≤◌, ◌==◌, Bool, true, false, cond, List, [], ◌∷◌, length, replicate, arith, ap, sym, ◌∙◌, refl, Some, None, subst}
+use Rattle.std.proofs.Common.{◌≡◌, ℕ, zero, suc, ◌+◌, ◌<◌, ◌≤◌, ◌==◌, Bool, true, false, cond, List, [], ◌∷◌, length, replicate, arith, ap, sym, ◌∙◌, refl, None}
 use Rattle.std.specs.Prelude.{Option, filter, sum_by, ◌&&◌, ◌||◌, nat_lt, IsTrue}
 use Rattle.std.specs.List.{list_all, list_any, range_with_len}
 use Rattle.std.specs.Option.{option_map_or}
@@ -9,7 +9,7 @@ use Rattle.std.proofs.lemmas.Bool.Decides.{nat_tests}
 use Rattle.plan_model.specs.declared.cases.Case.{Case}
 use Rattle.plan_model.specs.declared.cases.Assignment.{Assignment}
 use Rattle.plan_model.specs.Units.{all_reservations, free_plan}
-use Rattle.plan_model.specs.Allowed.{fits, region_allowed}
+use Rattle.plan_model.specs.Allowed.{fits}
 use Rattle.plan_model.proofs.SumLemmas.{sum_by-filter-le}
 use Rattle.plan_model.proofs.CaseFacts.{and-left, and-right}
 use Rattle.program_rows.specs.declared.phases.Phase.{Phase}

@@ -1,5 +1,5 @@
 -- Servers that are alike: where one is settled, the other is.
-use Rattle.std.proofs.Common.{◌≡◌, ℕ, zero, suc, ◌+◌, ◌<◌, ◌≤◌, Bool, true, false, cond, length, get_or, replicate, arith, ap, sym, ◌∙◌, refl, Some, None, subst}
+use Rattle.std.proofs.Common.{◌≡◌, ℕ, zero, suc, ◌<◌, ◌≤◌, Bool, true, false, cond, length, get_or, replicate, arith, ap, sym, ◌∙◌, refl, Some, None}
 use Rattle.std.specs.Prelude.{sum_by, Option, ◌&&◌, nat_lt}
 use Rattle.std.specs.Option.{option_map_or}
 use Rattle.plan_model.specs.declared.cases.Holder.{Holder}
@@ -11,8 +11,7 @@ use Rattle.plan_model.specs.Allowed.{keeps_need}
 use Rattle.plan_model.specs.Costs.{move_cost, terms_cost, rack_excess}
 use Rattle.plan_model.specs.Rack.{is_movable, none_or_in}
 use Rattle.plan_model.proofs.SumLemmas.{sum_by-filter}
-use Rattle.program_rows.specs.declared.phases.Phase.{Phase}
-use Rattle.program_rows.specs.declared.phases.Phase.TheVariants.{Region, Rack}
+use Rattle.program_rows.specs.declared.phases.Phase.TheVariants.{Region}
 use Rattle.program_rows.specs.Settings.{Setting, setting_of}
 use Rattle.program_rows.specs.Phases.{IsStart, phase_allowed, phase_cost}
 use Rattle.steady_plans.specs.Local.{may_take}

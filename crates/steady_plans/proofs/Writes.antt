@@ -1,5 +1,5 @@
 -- What writes leave of the tables.
-use Rattle.std.proofs.Common.{◌≡◌, ℕ, set, ◌+◌, ◌-◌, ◌*◌, ◌<◌, ◌≤◌, ◌==◌, List, length, get_or, arith, ap, sym, ◌∙◌, refl, Some, None, subst}
+use Rattle.std.proofs.Common.{◌≡◌, ℕ, set, ◌+◌, ◌-◌, ◌*◌, ◌<◌, List, length, get_or, arith, ap, sym, ◌∙◌, refl, Some, None, subst}
 use Rattle.std.specs.Prelude.{Option}
 use Rattle.plan_model.specs.declared.cases.Place.{Place}
 use Rattle.plan_model.specs.declared.cases.Case.{Case}

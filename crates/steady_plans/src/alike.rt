@@ -57,7 +57,7 @@ fn stand_alike(first: Place, second: Place) -> bool
 }
 
 /// What a server starts with.
-fn start_of(case: &Case, phase: &Phase<'_>, server: u32) -> Option<u32>
+pub(crate) fn start_of(case: &Case, phase: &Phase<'_>, server: u32) -> Option<u32>
     requires start { IsTrue (start_fits case.now phase.now) }
     requires in_range { server < length case.now.places }
     ensures { result ≡ slice_index_or (setting_of case.now phase.now).start.of server None }

@@ -6,6 +6,7 @@ mod laws;
 mod local;
 mod moves;
 mod sums;
+mod tried;
 mod values;
 
 pub use laws::{cost_changes_locally, steady_is_least_nearby};

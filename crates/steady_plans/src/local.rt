@@ -1,11 +1,12 @@
 //! What one reservation costs, and whether it keeps its need, by the sums.
-ghost use Rattle.std.specs.Prelude.{◌≡◌, ◌+◌, ◌-◌, ◌*◌, ◌<◌, ◌≤◌, ◌&&◌, IsTrue, if◌then◌else◌, length, nat_le, sum_by, ℕ};
-ghost use Rattle.std.specs.List.{list_all, range_with_len};
+ghost use Rattle.std.specs.Prelude.{◌≡◌, ◌+◌, ◌-◌, ◌*◌, ◌<◌, ◌≤◌, ◌&&◌, IsTrue, if◌then◌else◌, length, sum_by, ℕ};
+ghost use Rattle.std.specs.List.{list_all};
 ghost use Rattle.plan_model.specs.declared.cases.Assignment.{Assignment as AnyAssignment};
-ghost use Rattle.plan_model.specs.Allowed.{keeps_need as keeps_need_of};
+ghost use Rattle.plan_model.specs.Allowed.{keeps_need as keeps_need_of, survives as survives_of};
 ghost use Rattle.plan_model.specs.CaseRule.{goal_in_range};
 ghost use Rattle.plan_model.specs.Costs.{excess as excess_of, greatest, terms_cost};
-ghost use Rattle.plan_model.specs.Units.{units_on_rack, want_of};
+ghost use Rattle.plan_model.specs.Losses.{is_lost, loss_at, losses_named as losses_named_of};
+ghost use Rattle.plan_model.specs.Units.{units_on_rack, units_where, want_of};
 ghost use Rattle.program_rows.specs.Phases.{is_active as is_active_of};
 ghost use Rattle.program_rows.specs.Settings.{makes_active as makes_active_of, setting_of};
 ghost use Rattle.steady_plans.specs.Local.{local_cost as local_cost_of};
@@ -13,8 +14,9 @@ ghost use Rattle.steady_plans.specs.Tables.{AreSums, AreSumsOf, cell, column, sh
 
 use crate::sums::{Sums, units};
 use crate::values::want_at;
-use plan_model::{Case, Goal};
+use plan_model::{Case, Goal, losses_named};
 use program_rows::Phase;
+use ras_requests::Protection;
 
 /// Whether the phase makes a reservation that is there active.
 fn makes_active(phase: &Phase<'_>, r: u32) -> bool
@@ -159,18 +161,32 @@ pub(crate) fn local_cost(case: &Case, phase: &Phase<'_>, sums: &Sums, r: u32, ra
     terms(case, sums, r) + rack_part(case, phase, sums, r, rack)
 }
 
-/// Whether so many units are left after the loss of each switchboard.
-fn survives(cells: &[u64], boards: u32, r: u32, all: u64, need: u32) -> bool
-    requires small { r < 64 }
-    requires within { boards * 64 ≤ length cells.now }
-    ensures { result ≡ list_all (λ m. nat_le need (all - cell cells.now m r)) (range_with_len 0 boards) }
+/// The units of reservation r that are lost at the loss of that number, of those that a protection names.
+fn units_lost(case: &Case, sums: &Sums, r: u32, protection: Protection, number: u32) -> u64
+    requires there { r < length case.now.wants }
+    requires named { number < losses_named_of case.now protection }
+    requires sums { AreSums case.now sums.now }
+    ensures { (a : AnyAssignment) → AreSumsOf case.now a sums.now → result ≡ units_where (is_lost (loss_at protection number)) case.now a r }
 {
-    for board in 0..boards {
-        if all.saturating_sub(units(cells, board, r)) < u64::from(need) {
-            return false;
-        }
+    match protection {
+        Protection::Total => 0,
+        Protection::Board => units(sums.boards.as_slice(), number, r),
+        Protection::Center => units(sums.centers.as_slice(), number, r),
     }
-    true
+}
+
+/// Whether a reservation has what it needs after the loss of that number, of those that its protection names.
+fn survives(case: &Case, sums: &Sums, r: u32, number: u32) -> bool
+    requires there { r < length case.now.wants }
+    requires named { number < losses_named_of case.now (want_of case.now r).protection }
+    requires sums { AreSums case.now sums.now }
+    ensures { (a : AnyAssignment) → AreSumsOf case.now a sums.now → result ≡ survives_of case.now a r (loss_at (want_of case.now r).protection number) }
+{
+    let want = want_at(case, r);
+    let whole = sums.all.as_slice();
+    let all = units(whole, 0, r);
+    let lost = units_lost(case, sums, r, want.protection, number);
+    u64::from(want.need) <= all.saturating_sub(lost)
 }
 
 /// Whether a reservation keeps its need.
@@ -181,10 +197,13 @@ pub(crate) fn keeps_need(case: &Case, sums: &Sums, r: u32) -> bool
 {
     let want = want_at(case, r);
     let whole = sums.all.as_slice();
-    let boards = sums.boards.as_slice();
-    let all = units(whole, 0, r);
-    if all < u64::from(want.need) {
+    if units(whole, 0, r) < u64::from(want.need) {
         return false;
     }
-    survives(boards, case.boards, r, all, want.need)
+    for number in 0..losses_named(case, want.protection) {
+        if !survives(case, sums, r, number) {
+            return false;
+        }
+    }
+    true
 }

@@ -1,5 +1,5 @@
 //! Settling: each server gets the place of least cost, until none is cheaper.
-ghost use Rattle.std.specs.Prelude.{◌≡◌, ◌<◌, ◌≤◌, ◌⊎◌, ◌||◌, ℕ, Option, IsTrue, None, OnErr, OnOk, Some, false, length, nat_lt, slice_index_or, true};
+ghost use Rattle.std.specs.Prelude.{◌≡◌, ◌+◌, ◌<◌, ◌≤◌, ◌⊎◌, ◌||◌, ℕ, Option, IsTrue, None, OnErr, OnOk, Some, false, length, nat_lt, slice_index_or, true};
 ghost use Rattle.std.specs.Option.{option_map_or};
 ghost use Rattle.plan_model.specs.Allowed.{fits, keeps_need as keeps_need_of};
 ghost use Rattle.plan_model.specs.Rack.{is_movable};
@@ -9,10 +9,12 @@ ghost use Rattle.program_rows.specs.Settings.{setting_of, start_fits};
 ghost use Rattle.steady_plans.specs.Local.{IsPrice, may_take as may_take_of};
 ghost use Rattle.steady_plans.specs.Steady.{IsSettledAt, IsSteady, replaced};
 ghost use Rattle.steady_plans.specs.Tables.{AreSumsOf};
+ghost use Rattle.steady_plans.specs.Tried.{HasRoom};
 
 use crate::alike::{are_alike, is_same};
 use crate::local::{is_active, keeps_need, local_cost};
 use crate::sums::{Sums, put, put_place, sums_of, take, take_place};
+use crate::tried::{Tried, last_tried, none_tried, note_tried};
 use crate::values::{cost_at, place_at, place_in, value};
 use plan_model::{Assignment, Case};
 use program_rows::{Phase, movable};
@@ -267,34 +269,43 @@ fn settle_server(
     false
 }
 
-/// Whether a server is like one that is settled.
+/// Whether a server is like one that was tried since the last change.
 fn is_like_settled(
     case: &Case,
     phase: &Phase<'_>,
     a: &Assignment,
-    settled: Option<u32>,
+    tried: Option<u32>,
+    first: u32,
     server: u32,
 ) -> bool
     requires start { IsStart case.now (setting_of case.now phase.now) }
     requires fitting { IsTrue (start_fits case.now phase.now) }
     requires in_range { server < length case.now.places }
     requires allowed { IsTrue (phase_allowed case.now (setting_of case.now phase.now) a.now) }
-    requires settled { (t : ℕ) → settled ≡ Some t → (t < length case.now.places) × IsSettledAt case.now (setting_of case.now phase.now) a.now t }
+    requires settled { (t : ℕ) → first ≤ t → t < server → IsSettledAt case.now (setting_of case.now phase.now) a.now t }
     ensures { result ≡ true → IsSettledAt case.now (setting_of case.now phase.now) a.now server }
 {
-    match settled {
-        Some(t) => are_alike(case, phase, a, server, t),
-        None => false,
+    let Some(t) = tried else {
+        return false;
+    };
+    if t < first {
+        return false;
     }
+    if t >= server {
+        return false;
+    }
+    are_alike(case, phase, a, server, t)
 }
 
-/// The same, but for a server that is like one that is settled: nothing needs to be tried for it.
+/// The same, but for a server that is like one that was tried since the last change: nothing needs to be tried for it. All
+/// servers from `first` on that stand before it are settled.
 fn settle_next(
     case: &Case,
     phase: &Phase<'_>,
     sums: &mut Sums,
+    tried: &mut Tried,
     a: &mut Assignment,
-    settled: Option<u32>,
+    first: u32,
     server: u32,
 ) -> bool
     requires start { IsStart case.now (setting_of case.now phase.now) }
@@ -302,26 +313,33 @@ fn settle_next(
     requires in_range { server < length case.now.places }
     requires allowed { IsTrue (phase_allowed case.now (setting_of case.now phase.now) a.old) }
     requires sums { AreSumsOf case.now a.old sums.old }
-    requires settled { (t : ℕ) → settled ≡ Some t → (t < length case.now.places) × IsSettledAt case.now (setting_of case.now phase.now) a.old t }
+    requires room { HasRoom case.now tried.old }
+    requires settled { (t : ℕ) → first ≤ t → t < server → IsSettledAt case.now (setting_of case.now phase.now) a.old t }
     ensures sums { AreSumsOf case.now a.new sums.new }
+    ensures room { HasRoom case.now tried.new }
     ensures allowed { IsTrue (phase_allowed case.now (setting_of case.now phase.now) a.new) }
     ensures less { result ≡ true → phase_cost case.now (setting_of case.now phase.now) a.new < phase_cost case.now (setting_of case.now phase.now) a.old }
     ensures settled { result ≡ false → (a.new ≡ a.old) × IsSettledAt case.now (setting_of case.now phase.now) a.old server }
 {
-    if is_like_settled(case, phase, a, settled, server) {
+    let from = place_in(a, server);
+    let alike = last_tried(case, tried, server, from);
+    if is_like_settled(case, phase, a, alike, first, server) {
         return false;
     }
+    note_tried(case, tried, server, from);
     settle_server(case, phase, sums, a, server)
 }
 
-/// The server, where it is settled because nothing changed.
-fn settled_after(server: u32, changed: bool) -> Option<u32>
-    ensures { (t : ℕ) → result ≡ Some t → (t ≡ server) × (changed ≡ false) }
+/// The first server since the last change: the next one, where this server changed.
+fn first_after(first: u32, server: u32, changed: bool) -> u32
+    requires { server < 4294967295 }
+    ensures moved { changed ≡ true → result ≡ server + 1 }
+    ensures kept { changed ≡ false → result ≡ first }
 {
     if changed {
-        return None;
+        return server + 1;
     }
-    Some(server)
+    first
 }
 
 /// Whether one of the two holds.
@@ -331,22 +349,31 @@ fn either(first: bool, second: bool) -> bool
     first || second
 }
 
-/// Gives each server in order the best place that the phase allows, and tells whether one of them got another place.
-fn settle_each(case: &Case, phase: &Phase<'_>, sums: &mut Sums, a: &mut Assignment) -> bool
+/// Gives each server in order the best place that the phase allows, and tells whether one of them got another place. Of
+/// servers that are alike and get the same, one is tried for all until something changes.
+fn settle_each(
+    case: &Case,
+    phase: &Phase<'_>,
+    sums: &mut Sums,
+    tried: &mut Tried,
+    a: &mut Assignment,
+) -> bool
     requires start { IsStart case.now (setting_of case.now phase.now) }
     requires fitting { IsTrue (start_fits case.now phase.now) }
     requires allowed { IsTrue (phase_allowed case.now (setting_of case.now phase.now) a.old) }
     requires sums { AreSumsOf case.now a.old sums.old }
+    requires room { HasRoom case.now tried.old }
     ensures sums { AreSumsOf case.now a.new sums.new }
+    ensures room { HasRoom case.now tried.new }
     ensures allowed { IsTrue (phase_allowed case.now (setting_of case.now phase.now) a.new) }
     ensures less { result ≡ true → phase_cost case.now (setting_of case.now phase.now) a.new < phase_cost case.now (setting_of case.now phase.now) a.old }
     ensures steady { result ≡ false → (a.new ≡ a.old) × IsSteady case.now (setting_of case.now phase.now) a.old }
 {
     let mut changed = false;
-    let mut settled = None;
+    let mut first = 0;
     for server in 0..case.places.len() {
-        let now = settle_next(case, phase, sums, a, settled, server);
-        settled = settled_after(server, now);
+        let now = settle_next(case, phase, sums, tried, a, first, server);
+        first = first_after(first, server, now);
         changed = either(changed, now);
     }
     changed
@@ -371,6 +398,7 @@ pub fn settle(
     ensures unchanged { OnErr result (a.new ≡ a.old) }
 {
     let mut sums = sums_of(alloc, case, a)?;
-    'settling: while settle_each(case, phase, &mut sums, a) {}
+    let mut tried = none_tried(alloc, case, phase)?;
+    'settling: while settle_each(case, phase, &mut sums, &mut tried, a) {}
     Ok(())
 }

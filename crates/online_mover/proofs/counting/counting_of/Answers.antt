@@ -1,4 +1,4 @@
-use Rattle.std.proofs.Common.{◌≡◌, ◌<◌, ◌∙◌, List, length, get_or, ap, arith}
+use Rattle.std.proofs.Common.{◌<◌, ◌∙◌, List, length, get_or, ap, arith}
 use Rattle.online_mover.specs.declared.stands.Server.{Server}
 use Rattle.online_mover.specs.Sums.{Counted}
 use Rattle.online_mover.specs.States.{counts_for, no_server}

@@ -1,4 +1,4 @@
-use Rattle.std.proofs.Common.{◌≡◌, ◌∙◌, ◌+◌, ◌++◌, ◌∷◌, [], List, ℕ, sym, ap, ap₂, arith, length, drop, length-append}
+use Rattle.std.proofs.Common.{◌∙◌, ◌+◌, ◌∷◌, [], List, ℕ, sym, ap, ap₂, arith, length, drop, length-append}
 use Rattle.ras_inventory.specs.RegionRule.{server_names}
 use Rattle.online_mover.specs.EventFiles.{events_from, timed_at}
 use Rattle.online_mover.specs.declared.timed.Timed.{Timed}

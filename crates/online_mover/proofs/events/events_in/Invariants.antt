@@ -1,4 +1,4 @@
-use Rattle.std.proofs.Common.{◌≡◌, ◌+◌, ◌≤◌, drop, length}
+use Rattle.std.proofs.Common.{◌≡◌, ◌+◌, drop, length}
 use Rattle.ras_inventory.specs.RegionRule.{server_names}
 use Rattle.online_mover.specs.EventFiles.{events_from, events_in}
 use Rattle.online_mover.proofs.events.events_in.Given as goal

@@ -9,13 +9,13 @@ use Rattle.region_phase.proofs.filling.fill.Goals as goal
 
 pub returns-then-keep-clause-filled : goal.returns-then-keep-clause-filled
 returns-then-keep-clause-filled c =
-    let keeps = kept-by_sums c.args.case.now c.loop-taken.a c.args.r c.need-need.result c.loop-taken.sums c.need-need.ensures c.loop-taken.invariant.sums in
+    let keeps = kept-by_sums c.args.case.now c.loop-taken.a c.args.r c.loop-taken.sums c.loop-taken.invariant.sums in
     let is : keeps_need c.args.case.now c.loop-taken.a c.args.r ≡ true = sym keeps ∙ sym c.keep.ensures ∙ c.if-keep.true in
     sym (take-enough c.args.case.now c.loop-taken.a c.args.r _ is) ∙ c.loop-taken.invariant.rest
 
 pub returns-in_default-clause-filled : goal.returns-in_default-clause-filled
 returns-in_default-clause-filled c =
-    let keeps = kept-by_sums c.args.case.now c.loop-taken.a c.args.r c.need-need.result c.loop-taken.sums c.need-need.ensures c.loop-taken.invariant.sums in
+    let keeps = kept-by_sums c.args.case.now c.loop-taken.a c.args.r c.loop-taken.sums c.loop-taken.invariant.sums in
     let lacks : keeps_need c.args.case.now c.loop-taken.a c.args.r ≡ false = sym keeps ∙ sym c.keep.ensures ∙ c.if-keep.false in
     let within : c.loop-taken._taken < length c.args.case.now.places = omega arith in
     let next : next_server c.args.case.now c.loop-taken.a c.args.r ≡ None = sym c.next_server.ensures ∙ c.in_default.is in
@@ -33,7 +33,7 @@ give-requires-clause-free c =
 
 pub loop-taken-preserved : goal.loop-taken-preserved
 loop-taken-preserved c =
-    let keeps = kept-by_sums c.args.case.now c.loop-taken.a c.args.r c.need-need.result c.loop-taken.sums c.need-need.ensures c.loop-taken.invariant.sums in
+    let keeps = kept-by_sums c.args.case.now c.loop-taken.a c.args.r c.loop-taken.sums c.loop-taken.invariant.sums in
     let lacks : keeps_need c.args.case.now c.loop-taken.a c.args.r ≡ false = sym keeps ∙ sym c.keep.ensures ∙ c.if-keep.false in
     let within : c.loop-taken._taken < length c.args.case.now.places = omega arith in
     let next : next_server c.args.case.now c.loop-taken.a c.args.r ≡ Some c.in-Some.server = sym c.next_server.ensures ∙ c.in-Some.is in
@@ -45,6 +45,6 @@ loop-taken-preserved c =
 
 pub returns-clause-filled : goal.returns-clause-filled
 returns-clause-filled c =
-    let keeps = kept-by_sums c.args.case.now c.loop-taken.a c.args.r c.need-need.result c.loop-taken.sums c.need-need.ensures c.loop-taken.invariant.sums in
+    let keeps = kept-by_sums c.args.case.now c.loop-taken.a c.args.r c.loop-taken.sums c.loop-taken.invariant.sums in
     let last = take-last c.args.case.now c.loop-taken.a c.args.r c.loop-taken._taken (omega arith) in
     ap (λ b. if b then Some c.loop-taken.a else None) (c.keep-2.ensures ∙ keeps) ∙ sym last ∙ c.loop-taken.invariant.rest

@@ -1,25 +1,34 @@
-use Rattle.std.proofs.Common.{◌≡◌, ◌-◌, ◌<◌, ◌≤◌, ℕ, Bool, true, false, sym, arith}
+use Rattle.std.proofs.Common.{◌≡◌, ◌<◌, length, arith, ap, ◌∙◌}
 use Rattle.std.specs.Prelude.{nat_le}
-use Rattle.std.proofs.lemmas.Bool.Decides.{nat_tests}
-use Rattle.plan_model.proofs.NumberLemmas.{list_all-range_more, list_all-range_fails}
-use Rattle.steady_plans.specs.Tables.{cell}
+use Rattle.plan_model.specs.declared.cases.Want.{Want}
+use Rattle.plan_model.specs.Losses.{is_lost, losses_named, loss_at}
+use Rattle.plan_model.specs.Units.{units_where, want_of}
+use Rattle.steady_plans.specs.Tables.{one_part}
+use Rattle.steady_plans.proofs.Bounds.{cell-within}
+use Rattle.steady_plans.proofs.Columns.{total-is}
+use Rattle.steady_plans.proofs.Needs.{left-is}
 use Rattle.steady_plans.proofs.local.survives.Goals as goal
 
-passes : (m n : ℕ) → m ≤ n → nat_le m n ≡ true
-passes m n h = grind (arith, nat_tests, h)
+pub units-all-requires : goal.units-all-requires
+units-all-requires c =
+    let one : 0 < 1 = omega arith in
+    let inside = cell-within c.args.case.now c.requires.sums.0 one_part 1 c.args.sums.now.all.items c.requires.sums.1.all 0 c.args.r one c.requires.there in
+    omega (arith, inside, ap length c.as_slice-whole.ensures.value)
 
-fails : (m n : ℕ) → n < m → nat_le m n ≡ false
-fails m n h = grind (arith, nat_tests, h)
+pub units_lost-lost-requires-clause-named : goal.units_lost-lost-requires-clause-named
+units_lost-lost-requires-clause-named c =
+    let named = ap (λ (w : Want). losses_named c.args.case.now w.protection) c.want_at-want.ensures.want in
+    omega (arith, named, c.requires.named)
 
-pub loop-board-preserved : goal.loop-board-preserved
-loop-board-preserved c =
-    let test : ℕ → Bool = λ m. nat_le c.args.need (c.args.all - cell c.args.cells.now m c.args.r) in
-    let enough : c.args.need ≤ c.args.all - cell c.args.cells.now c.loop-board.board c.args.r = omega (arith, c.if-saturating_sub-from.false, c.from.ensures, c.saturating_sub.ensures, c.units.ensures) in
-    list_all-range_more test c.loop-board.board c.loop-board.invariant (passes c.args.need (c.args.all - cell c.args.cells.now c.loop-board.board c.args.r) enough)
-
-pub returns-then-saturating_sub-from : goal.returns-then-saturating_sub-from
-returns-then-saturating_sub-from c =
-    let test : ℕ → Bool = λ m. nat_le c.args.need (c.args.all - cell c.args.cells.now m c.args.r) in
-    let within : c.loop-board.board < c.args.boards = c.loop-board-test.true in
-    let few : c.args.all - cell c.args.cells.now c.loop-board.board c.args.r < c.args.need = omega (arith, c.if-saturating_sub-from.true, c.from.ensures, c.saturating_sub.ensures, c.units.ensures) in
-    sym (list_all-range_fails test c.args.boards c.loop-board.board within (fails c.args.need (c.args.all - cell c.args.cells.now c.loop-board.board c.args.r) few))
+pub returns : goal.returns
+returns c = λ a are.
+    let case = c.args.case.now in
+    let r = c.args.r in
+    let n = c.args.number in
+    let lost = is_lost (loss_at (want_of case r).protection n) in
+    let total = c.units-all.ensures ∙ total-is case a c.args.sums.now are r c.requires.there c.as_slice-whole.result.now c.as_slice-whole.ensures.value in
+    let gone : c.units_lost-lost.result ≡ units_where lost case a r =
+    c.units_lost-lost.ensures a are ∙ ap (λ (w : Want). units_where (is_lost (loss_at w.protection n)) case a r) c.want_at-want.ensures.want in
+    let need = c.from.ensures ∙ ap (λ (w : Want). w.need) c.want_at-want.ensures.want in
+    ap (nat_le c.from.result) c.saturating_sub.ensures
+    ∙ left-is case a r (loss_at (want_of case r).protection n) c.from.result c.units-all.result c.units_lost-lost.result need total gone

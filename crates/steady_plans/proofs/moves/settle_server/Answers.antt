@@ -1,4 +1,4 @@
-use Rattle.std.proofs.Common.{◌≡◌, true, false, sym, ◌∙◌, refl}
+use Rattle.std.proofs.Common.{sym, ◌∙◌, refl}
 use Rattle.program_rows.specs.Settings.{setting_of}
 use Rattle.steady_plans.proofs.Next.{fixed-settled}
 use Rattle.steady_plans.proofs.moves.settle_server.Goals as goal

@@ -1,8 +1,6 @@
-use Rattle.std.proofs.Common.{◌≡◌, ◌∙◌, ◌≤◌, ◌<◌, ◌-◌, ℕ, List, length, get_or, set, map, sym, ap, subst, arith, true, false, Some, None}
-use Rattle.std.specs.Prelude.{IsTrue, Option, ◌==◌}
+use Rattle.std.proofs.Common.{◌≡◌, ◌∙◌, ℕ, List, sym, ap, Some, None}
+use Rattle.std.specs.Prelude.{Option}
 use Rattle.online_mover.specs.Sums.{Counted}
-use Rattle.plan_model.specs.Units.{place_of, value_for}
-use Rattle.plan_model.specs.Allowed.{fits}
 use Rattle.std.proofs.lemmas.List.{set-set}
 use Rattle.online_mover.specs.Sums.{with_count}
 use Rattle.online_mover.proofs.counting.Counting.count.Goals as goal

@@ -1,5 +1,5 @@
-use Rattle.std.proofs.Common.{◌≡◌, ◌∙◌, ◌≤◌, ◌<◌, ◌-◌, ℕ, List, length, get_or, set, map, sym, ap, subst, arith, true, false, Some, None}
-use Rattle.std.specs.Prelude.{IsTrue, Option, ◌==◌}
+use Rattle.std.proofs.Common.{◌≡◌, ◌∙◌, ap, subst, arith}
+use Rattle.std.specs.Prelude.{IsTrue}
 use Rattle.online_mover.specs.Sums.{Counted}
 use Rattle.plan_model.specs.Units.{place_of, value_for}
 use Rattle.plan_model.specs.Allowed.{fits}

@@ -1,4 +1,4 @@
-use Rattle.std.proofs.Common.{◌≡◌, ◌<◌, ◌≤◌, ℕ, length, sym, ap, ◌∙◌, arith, below_more, None}
+use Rattle.std.proofs.Common.{◌≡◌, ◌<◌, ◌≤◌, length, sym, ap, ◌∙◌, arith, below_more}
 use Rattle.online_mover.specs.States.{State, in_flight}
 use Rattle.online_mover.specs.Commands.{command_of}
 use Rattle.online_mover.proofs.Given.{first-here}

@@ -1,4 +1,4 @@
-use Rattle.std.proofs.Common.{◌≡◌, ◌-◌, ◌+◌, ◌<◌, ◌≤◌, ℕ, sym, subst, ap, ◌∙◌, arith, List, length, Some}
+use Rattle.std.proofs.Common.{◌≡◌, ◌-◌, ◌+◌, ◌<◌, ℕ, sym, subst, ap, ◌∙◌, arith, List, Some}
 use Rattle.online_mover.specs.declared.stands.Command.{Command}
 use Rattle.online_mover.specs.States.{State, in_flight}
 use Rattle.online_mover.specs.Commands.{after_command, least_command}
