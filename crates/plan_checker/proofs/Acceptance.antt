@@ -1,42 +1,24 @@
 -- No reason holds exactly where the document is accepted.
-use Rattle.std.proofs.Common.{◌≡◌, ℕ, ◌+◌, ◌*◌, ◌-◌, ◌<◌, ◌≤◌, refl, sym, ap, ◌∙◌, subst, arith, Bool, true, false, not, ◌&&◌, ◌==◌, List, [], ◌∷◌, length, cond, get_or, nat_le, nat_lt, Option, Some, None, zip}
-use Rattle.std.specs.Prelude.{IfSome, position}
-use Rattle.std.specs.List.{list_all, range_with_len}
+use Rattle.std.proofs.Common.{◌≡◌, ℕ, ◌+◌, ◌*◌, ◌<◌, ◌≤◌, refl, sym, subst, arith, Bool, true, false, ◌&&◌, ◌==◌, List, [], ◌∷◌, length, cond, nat_le, nat_lt, Option, Some, None, zip}
+use Rattle.std.specs.Prelude.{IfSome}
 use Rattle.std.specs.Option.{option_map_or, option_or, is_none}
-use Rattle.std.proofs.lemmas.Slice.Zip.{get_or-zip, length-zip}
-use Rattle.plan_model.proofs.SumLemmas.{length-fits}
-use Rattle.plan_model.proofs.CaseFacts.{list_all-at}
-use Rattle.plan_model.proofs.AllowedLaws.{list_all-range_at}
-use Rattle.std.proofs.lemmas.Bool.{and_parts, and_from, eqb-true}
+use Rattle.std.proofs.lemmas.Bool.{and_parts, and_from}
 use Rattle.plan_model.specs.declared.cases.Case.{Case}
 use Rattle.plan_model.specs.declared.cases.Assignment.{Assignment}
-use Rattle.plan_model.specs.declared.cases.Grouping.{Grouping}
-use Rattle.plan_model.specs.Units.{servers_with_places, all_reservations, server_with, no_place}
-use Rattle.plan_model.specs.Allowed.{serves, keeps_need, fits, region_allowed}
+use Rattle.plan_model.specs.Units.{servers_with_places}
+use Rattle.plan_model.specs.Allowed.{region_allowed}
 use Rattle.plan_model.specs.Costs.{region_cost, rack_cost}
 use Rattle.plan_model.specs.Rack.{rack_allowed, keeps_to_chosen}
-use Rattle.plan_model.specs.Chosen.{AreChosen}
 use Rattle.ip_model.specs.declared.program.Program.{Program}
-use Rattle.ip_model.specs.Points.{IsWholePoint, value_of}
-use Rattle.ip_model.proofs.RuleFacts.{rule_of, program_from-is}
 use Rattle.bound_certificate.specs.declared.tree.Node.{Node}
 use Rattle.bound_certificate.specs.declared.tree.Node.TheVariants.{Split, Bound, Refute}
 use Rattle.ip_model.specs.declared.point.Point.{Point}
 use Rattle.ip_model.specs.declared.parts.Bounds.{Bounds}
-use Rattle.bound_certificate.specs.declared.tree.Least.{Least}
-use Rattle.bound_certificate.specs.declared.tree.Least.TheVariants.{At, AllRefuted}
-use Rattle.bound_certificate.specs.Trees.{LiesUnder, fault_of_tree, bound_of_tree, least_bound, first_fault}
-use Rattle.bound_certificate.proofs.TreeBound.{bound_of_tree_under}
-use Rattle.program_rows.specs.Settings.{Setting, region_setting, rack_setting, phase_classes}
-use Rattle.program_rows.specs.Programs.{program_base, program_columns, program_lines, program_fits}
-use Rattle.program_rows.specs.Phases.{IsPhase}
-use Rattle.program_rows.specs.Choice.{chosen_of}
+use Rattle.bound_certificate.specs.declared.tree.Least.TheVariants.{At}
+use Rattle.bound_certificate.specs.Trees.{bound_of_tree}
+use Rattle.program_rows.specs.Settings.{Setting, region_setting, rack_setting}
 use Rattle.program_rows.specs.Accepted.{phase_program}
-use Rattle.program_rows.proofs.BaseLimit.{program-kept}
-use Rattle.program_rows.proofs.PhaseSums.{start-of}
-use Rattle.class_expand.specs.Lifting.{IsProgramOf, counts_of}
-use Rattle.class_expand.proofs.Phases.{region-is_phase, region-up, rack-is_phase, rack-up}
-use Rattle.class_expand.proofs.Chosen.{chosen-there}
+use Rattle.class_expand.proofs.Phases.{region-is_phase, rack-is_phase}
 use Rattle.plan_document.specs.declared.part.Planned.{Planned}
 use Rattle.plan_document.specs.declared.part.Part.{Part}
 use Rattle.plan_document.specs.declared.part.RackPart.{RackPart}
@@ -45,22 +27,18 @@ use Rattle.plan_document.specs.declared.document.Answer.TheVariants as answer
 use Rattle.plan_document.specs.declared.document.Document.{Document}
 use Rattle.plan_checker.specs.declared.verdict.PhaseName.{PhaseName}
 use Rattle.plan_checker.specs.declared.verdict.PhaseName.TheVariants as phase
-use Rattle.plan_checker.specs.declared.verdict.Reason.{Reason}
 use Rattle.plan_checker.specs.declared.verdict.Reason.TheVariants as reason
-use Rattle.plan_checker.specs.Reasons.{reason_if, serves_reason, need_reason, allowed_reason, value_reason, plan_reason, size_reason, tree_reason, is_closed, open_reason, other_bound, lower_reason, gap_goes, gap_reason, bound_reason, program_reason, certificate_reason, region_plan_reason, region_reason, chosen_after, right_chosen, stated_chosen, chosen_reason, chosen_first, fixed_reason, rack_plan_reason, rack_part_reason, later_reason, first_reason}
-use Rattle.plan_checker.specs.Shape.{PlanInRange, HasBound, PartInRange, GoesWith, RackInRange, HasShape, HasPlan}
-use Rattle.plan_checker.specs.Headline.{KeepsPromise, RegionPromise, RackPromise, KeepsPromises}
-use Rattle.plan_checker.specs.Reasons.{allowed_reason, tree_reason, budget_reason, point_reason, spent_reason, limit_reason, region_last_reason, rack_last_reason, chosen_difference, first_difference, first_open, first_need, HasSoundTree}
+use Rattle.plan_checker.specs.Reasons.{protection_reason, is_closed, open_reason, lower_reason, gap_goes, gap_reason, region_plan_reason, region_reason, right_chosen, chosen_first, fixed_reason, rack_plan_reason, rack_part_reason, later_reason}
+use Rattle.plan_checker.specs.Shape.{HasBound, PartInRange, GoesWith, RackInRange, HasShape}
+use Rattle.plan_checker.specs.Reasons.{budget_reason, point_reason, spent_reason, limit_reason, rack_last_reason}
 use Rattle.plan_checker.specs.Laws.{NoReasonIsAccepted}
-use Rattle.plan_checker.specs.Accepted.{IsRightPlan, IsRightPart, IsRightRack, gap_of, GapsWithin, GoesWithChosen, SpentBudget, IsAccepted}
+use Rattle.plan_checker.specs.Accepted.{IsRightPlan, IsRightPart, IsRightRack, gap_of, GoesWithChosen, SpentBudget}
 use Rattle.program_rows.specs.Accepted.{IsRightTree, IsSpent}
-use Rattle.bound_certificate.specs.Shown.{Shows, IsShown, AreShown, node_shows, point_shows, lies_in, strictly_between, first_unshown}
-use Rattle.bound_certificate.proofs.ShownPoints.{lies_in-says, lies_in-from}
-use Rattle.plan_model.specs.Allowed.{first_not_served, first_loss}
-use Rattle.plan_model.proofs.AllowedLaws.{list_all-position, keeps-no_loss}
+use Rattle.bound_certificate.specs.Shown.{Shows, IsShown, AreShown, node_shows, point_shows, first_unshown}
+use Rattle.bound_certificate.proofs.ShownPoints.{lies_in-says}
 use Rattle.ip_model.specs.Points.{numerator, value_up_of}
-use Rattle.plan_checker.proofs.Steps.{or_none, if_none, if_not_none, map_none, all_pass, all_serve, all_keep, no_difference}
-use Rattle.plan_checker.proofs.Promise.{PlanHolds, SoundCertificate, sound_certificate, bound_is, gap_is, region_holds, rack_holds, chosen_right, are_chosen, stated_right, chosen_are}
+use Rattle.plan_checker.proofs.Steps.{or_none, if_not_none, map_none, all_pass, same_protections}
+use Rattle.plan_checker.proofs.Promise.{PlanHolds, SoundCertificate, sound_certificate, bound_is, gap_is, region_holds, rack_holds, chosen_right}
 
 -- ---- a part with nothing wrong is right
 
@@ -270,10 +248,12 @@ rack_with_chosen case (Some rack) right shape same = subst (λ (chosen : List �
 
 pub no_reason-accepted : NoReasonIsAccepted
 no_reason-accepted case document shape h =
-    let one = or_none (region_reason case document) _ h in
+    let parts = or_none (protection_reason case document) _ h in
+    let one = or_none (region_reason case document) _ parts.1 in
     let two = or_none (chosen_first case document document.answer) _ one.1 in
     let sound = region_sound case document shape one.0 two.1 in
     record {
+      protections = same_protections 0 document.protection case.wants shape.protections parts.0;
       region = region_right case document shape.region one.0;
       rack = racks_right case document shape one.0 two.1 document.rack document.region.plan refl refl;
       chosen = chosen_right case document document.answer two.0;

@@ -1,5 +1,5 @@
 -- Steps of the loops over lists.
-use Rattle.std.proofs.Common.{◌≡◌, ℕ, zero, suc, ◌+◌, ◌<◌, ◌≤◌, ◌≢◌, refl, sym, ap, ◌∙◌, arith, add-one, Bool, true, false, ◌==◌, cond, List, [], ◌∷◌, length, get_or, drop, Option, Some, None, min, IsTrue, zip, slice_index_or}
+use Rattle.std.proofs.Common.{◌≡◌, ℕ, suc, ◌+◌, ◌<◌, ◌≤◌, ◌≢◌, refl, ap, ◌∙◌, arith, add-one, List, [], ◌∷◌, length, get_or, drop, Option, Some, None, min, IsTrue, zip, slice_index_or}
 use Rattle.std.specs.Prelude.{option_map}
 use Rattle.std.specs.Option.{option_or}
 use Rattle.std.specs.List.{range_with_len}
@@ -8,6 +8,7 @@ use Rattle.std.proofs.lemmas.List.{drop_all, length-drop}
 use Rattle.std.proofs.lemmas.List.FromFn.{get_or-range_with_len, length-range_with_len}
 use Rattle.std.proofs.lemmas.Bool.{eq-eqb, ne_eqb}
 use Rattle.plan_model.specs.declared.cases.Case.{Case}
+use Rattle.plan_model.specs.declared.losses.Lost.{Lost}
 use Rattle.plan_model.specs.declared.cases.Assignment.{Assignment}
 use Rattle.plan_model.specs.declared.cases.Place.{Place}
 use Rattle.plan_model.specs.Allowed.{first_loss, fits}
@@ -15,26 +16,25 @@ use Rattle.plan_model.proofs.SumLemmas.{length-fits}
 use Rattle.std.proofs.lemmas.Slice.Zip.{get_or-zip, length-zip}
 use Rattle.plan_model.specs.Units.{all_reservations, servers_with_places, server_with, no_place}
 use Rattle.plan_checker.specs.declared.verdict.PhaseName.{PhaseName}
-use Rattle.plan_checker.specs.declared.verdict.Reason.{Reason}
 use Rattle.plan_checker.specs.declared.verdict.Reason.TheVariants as reason
 use Rattle.plan_checker.specs.Reasons.{first_need, first_difference}
 
 -- ---- needs
 
 need-drop : (part : PhaseName) (case : Case) (a : Assignment) (rs : List ℕ) (r d : ℕ) → r < length rs
-    → first_need part case a (drop r rs) ≡ option_or (option_map (λ board. reason.Need part (get_or rs r d) board) (first_loss case a (get_or rs r d))) (first_need part case a (drop (r + 1) rs))
+    → first_need part case a (drop r rs) ≡ option_or (option_map (λ lost. reason.Need part (get_or rs r d) lost) (first_loss case a (get_or rs r d))) (first_need part case a (drop (r + 1) rs))
 need-drop part case a rs r d within = rw (add-one, drop-cons rs r d within) refl
 
 plus_none : (n : ℕ) → 0 + n ≡ n
 plus_none n = omega arith
 
-pub need-step : (part : PhaseName) (case : Case) (a : Assignment) (r : ℕ) (found : Option (Option ℕ)) → r < length case.wants → found ≡ first_loss case a r
-    → first_need part case a (drop r (all_reservations case)) ≡ option_or (option_map (λ board. reason.Need part r board) found) (first_need part case a (drop (r + 1) (all_reservations case)))
+pub need-step : (part : PhaseName) (case : Case) (a : Assignment) (r : ℕ) (found : Option Lost) → r < length case.wants → found ≡ first_loss case a r
+    → first_need part case a (drop r (all_reservations case)) ≡ option_or (option_map (λ lost. reason.Need part r lost) found) (first_need part case a (drop (r + 1) (all_reservations case)))
 need-step part case a r found within is =
     let n = length case.wants in
     let here : get_or (range_with_len 0 n) r 0 ≡ r = get_or-range_with_len 0 n r 0 within ∙ plus_none r in
     need-drop part case a (all_reservations case) r 0 (omega (arith, within, length-range_with_len 0 n))
-    ∙ rw is (ap (λ q. option_or (option_map (λ board. reason.Need part q board) (first_loss case a q)) (first_need part case a (drop (r + 1) (all_reservations case)))) here)
+    ∙ rw is (ap (λ q. option_or (option_map (λ lost. reason.Need part q lost) (first_loss case a q)) (first_need part case a (drop (r + 1) (all_reservations case)))) here)
 
 pub need-end : (part : PhaseName) (case : Case) (a : Assignment) (r : ℕ) → length case.wants ≤ r → first_need part case a (drop r (all_reservations case)) ≡ None
 need-end part case a r past = rw (drop_all r (all_reservations case) (omega (arith, past, length-range_with_len 0 (length case.wants)))) refl

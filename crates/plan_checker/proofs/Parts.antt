@@ -1,34 +1,29 @@
 -- The reasons of a part, as its program is built and its tree walked.
-use Rattle.std.proofs.Common.{◌≡◌, ℕ, ◌≤◌, ◌^◌, refl, sym, ap, ◌∙◌, subst, Bool, true, false, not, List, Option, Some, None, is_some, Result, Ok, Err}
-use Rattle.std.specs.Prelude.{IfSome, option_map, ⊤}
-use Rattle.std.specs.Option.{option_or, is_none}
+use Rattle.std.proofs.Common.{◌≡◌, ℕ, ◌≤◌, ◌^◌, sym, ap, ◌∙◌, subst, Bool, true, false, not, Option, Some, None, is_some, Result, Ok, Err}
+use Rattle.std.specs.Prelude.{IfSome, option_map}
+use Rattle.std.specs.Option.{option_or}
 use Rattle.plan_model.specs.declared.cases.Case.{Case}
-use Rattle.plan_model.specs.declared.cases.Assignment.{Assignment}
 use Rattle.plan_model.specs.Allowed.{region_allowed, fits}
 use Rattle.plan_model.specs.Costs.{region_cost}
-use Rattle.plan_model.specs.Chosen.{AreChosen}
 use Rattle.ip_model.specs.declared.program.Program.{Program}
-use Rattle.bound_certificate.specs.declared.tree.Node.{Node}
 use Rattle.bound_certificate.specs.declared.tree.Least.{Least}
 use Rattle.bound_certificate.specs.declared.tree.LowerFault.{LowerFault}
 use Rattle.bound_certificate.specs.declared.tree.LowerFault.TheVariants as fault
 use Rattle.bound_certificate.specs.declared.tree.TreeWhy.{TreeWhy}
 use Rattle.bound_certificate.specs.Trees.{IsLower, fault_of_tree, bound_of_tree}
-use Rattle.program_rows.specs.Settings.{Setting, region_setting, rack_setting, phase_classes}
+use Rattle.program_rows.specs.Settings.{Setting, phase_classes}
 use Rattle.program_rows.specs.Programs.{program_fits}
 use Rattle.program_rows.specs.Accepted.{phase_program}
 use Rattle.plan_document.specs.declared.part.Planned.{Planned}
 use Rattle.plan_document.specs.declared.part.Part.{Part}
-use Rattle.plan_document.specs.declared.part.RackPart.{RackPart}
 use Rattle.plan_document.specs.declared.document.Document.{Document}
 use Rattle.plan_checker.specs.declared.verdict.PhaseName.{PhaseName}
 use Rattle.plan_checker.specs.declared.verdict.PhaseName.TheVariants as phase
-use Rattle.plan_checker.specs.declared.verdict.Reason.{Reason}
 use Rattle.plan_checker.specs.declared.verdict.Reason.TheVariants as reason
 use Rattle.plan_checker.specs.Reasons.{reason_if, size_reason, tree_reason, bound_reason, program_reason, certificate_reason, region_plan_reason, region_reason, HasSoundTree}
 use Rattle.plan_checker.specs.Shape.{PlanInRange, PartInRange}
 use Rattle.plan_checker.proofs.Steps.{or_none, map_none}
-use Rattle.plan_checker.proofs.Promise.{PlanHolds, plan_holds}
+use Rattle.plan_checker.proofs.Promise.{plan_holds}
 
 module _ (part : PhaseName) (case : Case) (setting : Setting) (document : Document) (last : Bool) (stated : Part) where
   pub too_large : (o : Option Program) → is_some o ≡ program_fits case setting (phase_classes case setting document.grouping) → o ≡ None

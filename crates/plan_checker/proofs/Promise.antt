@@ -1,20 +1,22 @@
 -- Where no reason holds, the document keeps its promises.
-use Rattle.std.proofs.Common.{◌≡◌, ℕ, ◌+◌, ◌-◌, ◌<◌, ◌≤◌, refl, sym, ap, ◌∙◌, subst, arith, Bool, true, false, not, ◌&&◌, ◌==◌, List, [], ◌∷◌, length, get_or, nat_le, nat_lt, Option, Some, None, zip}
+use Rattle.std.proofs.Common.{◌≡◌, ℕ, ◌+◌, ◌-◌, ◌<◌, ◌≤◌, refl, sym, ap, subst, arith, Bool, true, false, not, ◌&&◌, ◌==◌, List, [], ◌∷◌, length, nat_le, Option, Some, None}
 use Rattle.std.specs.Prelude.{IfSome, position}
-use Rattle.std.specs.List.{list_all, range_with_len}
+use Rattle.std.specs.List.{list_all}
 use Rattle.std.specs.Option.{option_map_or, is_none}
 use Rattle.std.proofs.lemmas.Slice.Zip.{get_or-zip, length-zip}
 use Rattle.plan_model.proofs.SumLemmas.{length-fits}
 use Rattle.plan_model.proofs.CaseFacts.{list_all-at}
 use Rattle.plan_model.proofs.AllowedLaws.{list_all-range_at}
 use Rattle.std.proofs.lemmas.Bool.{and_parts, and_from, eqb-true}
+use Rattle.std.proofs.lemmas.List.Sums.{AllPass-from_list_all}
 use Rattle.plan_model.specs.declared.cases.Case.{Case}
 use Rattle.plan_model.specs.declared.cases.Assignment.{Assignment}
 use Rattle.plan_model.specs.declared.cases.Grouping.{Grouping}
-use Rattle.plan_model.specs.Units.{servers_with_places, all_reservations, server_with, no_place}
-use Rattle.plan_model.specs.Allowed.{serves, keeps_need, fits, region_allowed}
+use Rattle.plan_model.specs.Units.{servers_with_places, no_place}
+use Rattle.plan_model.specs.Allowed.{serves, survives, keeps_need, fits, region_allowed}
+use Rattle.plan_model.specs.Losses.{losses}
 use Rattle.plan_model.specs.Costs.{region_cost, rack_cost}
-use Rattle.plan_model.specs.Rack.{rack_allowed, keeps_to_chosen}
+use Rattle.plan_model.specs.Rack.{rack_allowed}
 use Rattle.plan_model.specs.Chosen.{AreChosen}
 use Rattle.ip_model.specs.declared.program.Program.{Program}
 use Rattle.ip_model.specs.Points.{IsWholePoint, value_of}
@@ -23,12 +25,11 @@ use Rattle.bound_certificate.specs.declared.tree.Node.{Node}
 use Rattle.bound_certificate.specs.declared.tree.Node.TheVariants.{Split, Bound, Refute}
 use Rattle.bound_certificate.specs.declared.tree.Least.{Least}
 use Rattle.bound_certificate.specs.declared.tree.Least.TheVariants.{At, AllRefuted}
-use Rattle.bound_certificate.specs.Trees.{LiesUnder, fault_of_tree, bound_of_tree, least_bound, first_fault}
+use Rattle.bound_certificate.specs.Trees.{LiesUnder, fault_of_tree, bound_of_tree, least_bound}
 use Rattle.bound_certificate.proofs.TreeBound.{bound_of_tree_under}
 use Rattle.program_rows.specs.Settings.{Setting, region_setting, rack_setting, phase_classes}
 use Rattle.program_rows.specs.Programs.{program_base, program_columns, program_lines, program_fits}
 use Rattle.program_rows.specs.Phases.{IsPhase}
-use Rattle.program_rows.specs.Choice.{chosen_of}
 use Rattle.program_rows.specs.Accepted.{phase_program}
 use Rattle.program_rows.proofs.BaseLimit.{program-kept}
 use Rattle.program_rows.proofs.PhaseSums.{start-of}
@@ -43,12 +44,11 @@ use Rattle.plan_document.specs.declared.document.Answer.TheVariants as answer
 use Rattle.plan_document.specs.declared.document.Document.{Document}
 use Rattle.plan_checker.specs.declared.verdict.PhaseName.{PhaseName}
 use Rattle.plan_checker.specs.declared.verdict.PhaseName.TheVariants as phase
-use Rattle.plan_checker.specs.declared.verdict.Reason.{Reason}
 use Rattle.plan_checker.specs.declared.verdict.Reason.TheVariants as reason
-use Rattle.plan_checker.specs.Reasons.{reason_if, serves_reason, need_reason, allowed_reason, value_reason, plan_reason, size_reason, tree_reason, is_closed, open_reason, other_bound, lower_reason, gap_goes, gap_reason, bound_reason, program_reason, certificate_reason, region_plan_reason, region_reason, chosen_after, right_chosen, stated_chosen, chosen_reason, chosen_first, fixed_reason, rack_plan_reason, rack_part_reason, later_reason, first_reason}
-use Rattle.plan_checker.specs.Shape.{PlanInRange, HasBound, PartInRange, GoesWith, RackInRange, HasShape, HasPlan}
-use Rattle.plan_checker.specs.Headline.{KeepsPromise, RegionPromise, RackPromise, KeepsPromises}
-use Rattle.plan_checker.proofs.Steps.{or_none, if_none, if_not_none, map_none, all_pass, all_serve, all_keep, no_difference}
+use Rattle.plan_checker.specs.Reasons.{protection_reason, serves_reason, allowed_reason, plan_reason, size_reason, tree_reason, is_closed, open_reason, other_bound, lower_reason, gap_goes, gap_reason, program_reason, certificate_reason, region_plan_reason, region_reason, chosen_after, right_chosen, stated_chosen, chosen_first, fixed_reason, rack_plan_reason, rack_part_reason, later_reason, first_reason}
+use Rattle.plan_checker.specs.Shape.{PlanInRange, HasBound, GoesWith, RackInRange, HasShape}
+use Rattle.plan_checker.specs.Headline.{KeepsPromise, RackPromise, KeepsPromises}
+use Rattle.plan_checker.proofs.Steps.{or_none, if_not_none, map_none, all_pass, all_serve, all_keep, no_difference}
 
 -- ---- the plan of a part
 
@@ -116,7 +116,7 @@ by_allowed case plan cost allowed is value least =
           let second : s < length a.of = omega (arith, same, within) in
           let beside : s < length (servers_with_places case a) = omega (arith, length-zip case.places a.of, same, within) in
           subst (λ t. serves case t ≡ true) (get_or-zip case.places a.of s (no_place, None) within second) (list_all-at (serves case) (servers_with_places case a) s (no_place, None) beside (and_parts _ _ first).1);
-      needs = λ r within. list_all-range_at (keeps_need case a) (length case.wants) r (and_parts _ _ is).1 within;
+      needs = λ r within. AllPass-from_list_all (survives case a r) (losses case r) (list_all-range_at (keeps_need case a) (length case.wants) r (and_parts _ _ is).1 within);
       value = value;
       least = least;
     }
@@ -254,7 +254,8 @@ rack_part_kept case document shape region chosen (Some rack) (Some plan) e f h =
 
 pub promises : (case : Case) (document : Document) → HasShape case document → first_reason case document ≡ None → KeepsPromises case document
 promises case document shape h =
-    let one = or_none (region_reason case document) _ h in
+    let parts = or_none (protection_reason case document) _ h in
+    let one = or_none (region_reason case document) _ parts.1 in
     let two = or_none (chosen_first case document document.answer) _ one.1 in
     let region = or_none (region_plan_reason case document.region.plan) _ one.0 in
     let last = is_none document.rack in

@@ -1,15 +1,9 @@
 -- The program of a phase, as it is built or is too large.
-use Rattle.std.proofs.Common.{◌≡◌, ℕ, ◌<◌, ◌≤◌, refl, sym, ap, ◌∙◌, subst, arith, Bool, true, false, ◌&&◌, cond, List, length, nat_le, nat_lt, Option, Some, None, is_some}
-use Rattle.std.proofs.lemmas.Bool.{and_left, and_right}
+use Rattle.std.proofs.Common.{◌≡◌, ℕ, refl, sym, ap, ◌∙◌, arith, Bool, true, false, ◌&&◌, List, length, nat_le, Some, None}
+use Rattle.std.proofs.lemmas.Bool.{and_left}
 use Rattle.std.proofs.lemmas.Bool.Decides.{nat_tests}
 use Rattle.plan_model.specs.declared.cases.Case.{Case}
 use Rattle.plan_model.specs.declared.cases.Grouping.{Grouping}
-use Rattle.plan_model.specs.Allowed.{fits}
-use Rattle.plan_model.specs.Units.{servers_with_places}
-use Rattle.plan_model.specs.Rack.{is_movable}
-use Rattle.plan_model.proofs.SumLemmas.{length-fits}
-use Rattle.std.proofs.lemmas.Slice.Zip.{length-zip}
-use Rattle.std.proofs.lemmas.List.{length-map, length-replicate}
 use Rattle.symmetry_classes.specs.declared.groups.Class.{Class}
 use Rattle.ip_model.specs.declared.parts.Column.{Column}
 use Rattle.ip_model.specs.declared.parts.Line.{Line}
@@ -20,7 +14,7 @@ use Rattle.ip_model.proofs.RuleFacts.{program_from-parts}
 use Rattle.program_rows.specs.declared.fault.SizeFault.{SizeFault}
 use Rattle.program_rows.specs.declared.phases.Phase.{Phase}
 use Rattle.program_rows.specs.declared.phases.Phase.TheVariants.{Region, Rack}
-use Rattle.program_rows.specs.Settings.{Setting, setting_of, phase_classes, movable_flags, start_fits}
+use Rattle.program_rows.specs.Settings.{Setting, setting_of, phase_classes, movable_flags}
 use Rattle.symmetry_classes.specs.Groups.{flagged_servers, classes_of}
 use Rattle.plan_checker.specs.Shape.{counts_racks}
 use Rattle.program_rows.specs.Programs.{program_base, program_columns, program_lines, program_fits}

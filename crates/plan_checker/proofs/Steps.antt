@@ -1,17 +1,21 @@
 -- What it says that a reason does not hold.
-use Rattle.std.proofs.Common.{◌≡◌, ℕ, ◌+◌, ◌<◌, ◌≤◌, refl, sym, ap, ◌∙◌, arith, Bool, true, false, not, ◌&&◌, ◌==◌, cond, List, [], ◌∷◌, length, get_or, nat_le, nat_lt, Option, Some, None, is_some, zip}
+use Rattle.std.proofs.Common.{◌≡◌, ℕ, ◌+◌, refl, ap, ap₂, ◌∙◌, arith, Bool, true, false, not, ◌==◌, cond, List, [], ◌∷◌, length, map, Option, Some, None, is_some}
 use Rattle.std.specs.Prelude.{position, option_map}
 use Rattle.std.specs.Option.{option_or}
 use Rattle.std.specs.List.{list_all}
+use Rattle.ras_requests.specs.declared.requests.Protection.{Protection}
+use Rattle.ras_requests.specs.declared.requests.Protection.TheVariants as protection
+use Rattle.plan_model.specs.declared.cases.Want.{Want}
 use Rattle.plan_model.specs.declared.cases.Case.{Case}
 use Rattle.plan_model.specs.declared.cases.Assignment.{Assignment}
-use Rattle.plan_model.specs.Allowed.{serves, keeps_need, first_not_served, first_loss, fits, region_allowed}
+use Rattle.plan_model.specs.Allowed.{serves, keeps_need, first_not_served, first_loss}
 use Rattle.plan_model.specs.Units.{servers_with_places, all_reservations}
 use Rattle.plan_model.proofs.AllowedLaws.{list_all-position, keeps-no_loss}
 use Rattle.std.proofs.lemmas.Bool.{and_from, eqb-true}
 use Rattle.plan_checker.specs.declared.verdict.PhaseName.{PhaseName}
 use Rattle.plan_checker.specs.declared.verdict.Reason.{Reason}
-use Rattle.plan_checker.specs.Reasons.{reason_if, serves_reason, first_need, need_reason, first_difference}
+use Rattle.plan_checker.specs.declared.verdict.Reason.TheVariants as reason
+use Rattle.plan_checker.specs.Reasons.{reason_if, same_protection, first_other, serves_reason, first_need, need_reason, first_difference}
 
 pub or_none : {X : Type 0} (a b : Option X) → option_or a b ≡ None → (a ≡ None) × (b ≡ None)
 or_none None b h = (refl, h)
@@ -43,6 +47,27 @@ needs_of part case a (r ∷ rs) h =
 
 pub all_keep : (part : PhaseName) (case : Case) (a : Assignment) → need_reason part case a ≡ None → list_all (keeps_need case a) (all_reservations case) ≡ true
 all_keep part case a h = needs_of part case a (all_reservations case) h
+
+same-protection : (p q : Protection) → same_protection p q ≡ true → p ≡ q
+same-protection protection.Total protection.Total h = refl
+same-protection protection.Total protection.Board h = cc
+same-protection protection.Total protection.Center h = cc
+same-protection protection.Board protection.Total h = cc
+same-protection protection.Board protection.Board h = refl
+same-protection protection.Board protection.Center h = cc
+same-protection protection.Center protection.Total h = cc
+same-protection protection.Center protection.Board h = cc
+same-protection protection.Center protection.Center h = refl
+
+-- no reservation's protection is another one
+pub same_protections : (r : ℕ) (ps : List Protection) (wants : List Want) → length ps ≡ length wants → first_other r ps wants ≡ None → ps ≡ map (λ (w : Want). w.protection) wants
+same_protections r [] [] all h = refl
+same_protections r [] (w ∷ ws) all h = absurd (omega (arith, all))
+same_protections r (p ∷ ps) [] all h = absurd (omega (arith, all))
+same_protections r (p ∷ ps) (w ∷ ws) all h =
+    let parts = or_none (reason_if (not (same_protection p w.protection)) (reason.Protection r)) _ h in
+    ap₂ (λ (q : Protection) (qs : List Protection). q ∷ qs) (same-protection p w.protection (if_not_none (same_protection p w.protection) (reason.Protection r) parts.0))
+    (same_protections (r + 1) ps ws (omega (arith, all)) parts.1)
 
 same-number : (x y : ℕ) (rest : Option ℕ) → cond (x == y) rest (Some 0) ≡ None → (x ≡ y) × (rest ≡ None)
 same-number x y rest h = by (x == y) refl h

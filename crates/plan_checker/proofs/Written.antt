@@ -1,12 +1,10 @@
 -- A document that the format can state has the shape that the verdict asks for.
-use Rattle.std.proofs.Common.{◌≡◌, ℕ, ◌<◌, ◌≤◌, ◌^◌, refl, ◌∙◌, subst, arith, Bool, true, false, ◌&&◌, ◌==◌, List, length, get_or, nat_lt, Option, Some, None, is_some, All}
+use Rattle.std.proofs.Common.{◌≡◌, ℕ, ◌<◌, refl, ◌∙◌, subst, arith, true, false, List, length, get_or, nat_lt, Option, Some, None, is_some, All}
 use Rattle.std.specs.Prelude.{IfSome}
 use Rattle.std.specs.Option.{option_map_or}
-use Rattle.std.specs.List.{list_all}
 use Rattle.std.proofs.lemmas.Bool.{and_from, eq-eqb}
 use Rattle.std.proofs.lemmas.List.Sums.{list_all-from_AllPass}
 use Rattle.plan_model.specs.declared.cases.Case.{Case}
-use Rattle.plan_model.specs.Allowed.{fits}
 use Rattle.plan_document.specs.declared.part.Planned.{Planned}
 use Rattle.plan_document.specs.declared.part.Part.{Part}
 use Rattle.plan_document.specs.declared.part.RackPart.{RackPart}
@@ -14,10 +12,9 @@ use Rattle.plan_document.specs.declared.part.Form.{Form}
 use Rattle.plan_document.specs.declared.part.Form.TheVariants as form
 use Rattle.plan_document.specs.declared.document.Answer.{Answer}
 use Rattle.plan_document.specs.declared.document.Answer.TheVariants as answer
-use Rattle.plan_document.specs.declared.document.Document.{Document}
 use Rattle.plan_document.specs.Documents.{form_of, may_have_rack}
-use Rattle.plan_document.specs.Writable.{PlanIsInRange, HasForm, PartCanBeWritten, RackCanBeWritten, CanBeWritten}
-use Rattle.plan_checker.specs.Shape.{PlanInRange, HasBound, PartInRange, GoesWith, HasPlan, RackInRange, HasShape}
+use Rattle.plan_document.specs.Writable.{PlanIsInRange, HasForm, PartCanBeWritten, RackCanBeWritten}
+use Rattle.plan_checker.specs.Shape.{PlanInRange, HasBound, PartInRange, GoesWith, HasPlan, RackInRange}
 use Rattle.plan_checker.specs.Laws.{WrittenHasShape}
 
 nat_lt-from : (m n : ℕ) → m < n → nat_lt m n ≡ true
@@ -76,6 +73,7 @@ module _ (case : Case) (servers reservations : List (List ℕ)) (places : length
 
 pub written-has_shape : WrittenHasShape
 written-has_shape case servers reservations document places wants h = record {
+  protections = h.protections ∙ wants;
   region = part_in case servers reservations places wants (form_of document.answer (is_some document.region.plan)) document.region h.region;
   rack = rack_in case servers reservations places wants document.rack h.rack;
   members = members_in document.answer document.region.plan document.region.lower document.rack h.region.form h.beside;

@@ -1,6 +1,7 @@
 -- When a document is accepted.
-use Rattle.std.specs.Prelude.{ℕ, ◌≡◌, ◌+◌, ◌≤◌, ◌<◌, true, Bool, List, [], length, Option, Some, None, IfSome, option_map, ⊤}
+use Rattle.std.specs.Prelude.{ℕ, ◌≡◌, ◌+◌, ◌≤◌, ◌<◌, true, Bool, List, [], length, map, Option, Some, None, IfSome, option_map, ⊤}
 use Rattle.std.specs.List.{list_all}
+use Rattle.ras_requests.specs.declared.requests.Protection.{Protection}
 use Rattle.plan_model.specs.declared.cases.Case.{Case}
 use Rattle.plan_model.specs.declared.cases.Assignment.{Assignment}
 use Rattle.plan_model.specs.declared.cases.Grouping.{Grouping}
@@ -15,6 +16,10 @@ use Rattle.plan_document.specs.declared.part.RackPart.{RackPart}
 use Rattle.plan_document.specs.declared.document.Answer.TheVariants as answer
 use Rattle.plan_document.specs.declared.document.Document.{Document}
 use Rattle.plan_checker.specs.Reasons.{is_closed, right_chosen, stated_chosen}
+
+-- the protection of each reservation of the case
+abbrev pub case_protections : Case → List Protection
+case_protections case = map (λ want. want.protection) case.wants
 
 -- its assignment is allowed, its stated value is the cost, and its stated gap is value minus the stated bound
 pub record IsRightPlan (allows : Assignment → Bool) (cost : Assignment → ℕ) (lower : Option ℕ) (plan : Planned) : Type 0 where
@@ -51,10 +56,11 @@ abbrev pub GoesWithChosen : Option RackPart → List ℕ → Type 0
 GoesWithChosen None chosen = chosen ≡ []
 GoesWithChosen (Some rack) chosen = 0 < length chosen
 
--- Each part is right. The stated list of chosen reservations is the chosen list, and a rack part is there exactly where it is not empty, unless the answer is that there
+-- The stated protection of each reservation is that of the case. Each part is right. The stated list of chosen reservations is the chosen list, and a rack part is there exactly where it is not empty, unless the answer is that there
 -- is no plan. Where the answer is a plan, each
 -- stated gap is at most the wanted gap; where it is that there is none, all leaves are refuted; where it is a limit, the last part's budget is spent.
 pub record IsAccepted (case : Case) (document : Document) : Type 0 where
+  pub protections : document.protection ≡ case_protections case
   pub region : IsRightPart case (region_setting case) document.grouping (region_allowed case) (region_cost case) document.region
   pub rack : IfSome document.region.plan (λ first. IfSome document.rack (IsRightRack case document.grouping first.of))
   pub chosen : (document.answer ≡ answer.Infeasible → ⊥) → stated_chosen document ≡ right_chosen case document

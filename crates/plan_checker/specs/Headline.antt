@@ -1,22 +1,23 @@
 -- What an accepted document promises, over single servers and plain sums.
-use Rattle.std.specs.Prelude.{ℕ, ◌≡◌, ◌-◌, ◌<◌, ◌≤◌, true, List, length, Option, Some, None, IfSome}
+use Rattle.std.specs.Prelude.{ℕ, ◌≡◌, ◌-◌, ◌<◌, ◌≤◌, true, All, List, length, IfSome}
 use Rattle.plan_model.specs.declared.cases.Case.{Case}
 use Rattle.plan_model.specs.declared.cases.Assignment.{Assignment}
 use Rattle.plan_model.specs.Units.{server_with}
-use Rattle.plan_model.specs.Allowed.{fits, serves, keeps_need, region_allowed}
+use Rattle.plan_model.specs.Allowed.{fits, serves, survives, region_allowed}
+use Rattle.plan_model.specs.Losses.{losses}
 use Rattle.plan_model.specs.Costs.{region_cost, rack_cost}
 use Rattle.plan_model.specs.Rack.{rack_allowed}
 use Rattle.plan_document.specs.declared.part.Planned.{Planned}
-use Rattle.plan_document.specs.declared.part.RackPart.{RackPart}
 use Rattle.plan_document.specs.declared.document.Answer.TheVariants as answer
 use Rattle.plan_document.specs.declared.document.Document.{Document}
 
--- Each server has at most one reservation, and one that it may serve. Each reservation keeps its need, also after the loss of any one switchboard.
+-- Each server has at most one reservation, and one that it may serve. Each reservation keeps its requested
+-- units, also after any one loss that its stated protection names.
 -- The stated value is the cost, and it exceeds the cost of no allowed assignment by more than the stated gap.
 pub record KeepsPromise (case : Case) (allowed : Assignment → Type 0) (cost : Assignment → ℕ) (plan : Planned) : Type 0 where
   pub places : fits case plan.of ≡ true
   pub serves : (s : ℕ) → s < length case.places → serves case (server_with case plan.of s) ≡ true
-  pub needs : (r : ℕ) → r < length case.wants → keeps_need case plan.of r ≡ true
+  pub needs : (r : ℕ) → r < length case.wants → All (λ lost. survives case plan.of r lost ≡ true) (losses case r)
   pub value : plan.value ≡ cost plan.of
   pub least : (b : Assignment) → allowed b → plan.value - cost b ≤ plan.gap
 

@@ -1,12 +1,14 @@
 -- The reasons why a document is not accepted, in their order, each with its first place.
-use Rattle.std.specs.Prelude.{ℕ, ◌≡◌, ⊤, ◌+◌, ◌*◌, ◌==◌, ◌&&◌, ◌||◌, not, nat_le, nat_lt, Bool, true, false, if◌then◌else◌, List, [], ◌∷◌, length, zip, position, map, Option, Some, None, option_map, pos, ◌*ℤ◌, int_le, slice_index}
-use Rattle.std.specs.List.{list_all, range_with_len}
+use Rattle.std.specs.Prelude.{ℕ, ◌≡◌, ⊤, ◌+◌, ◌==◌, ◌&&◌, ◌||◌, not, nat_le, nat_lt, Bool, true, false, if◌then◌else◌, List, [], ◌∷◌, length, zip, position, Option, Some, None, option_map}
 use Rattle.std.specs.Option.{option_map_or, option_or, is_none}
+use Rattle.ras_requests.specs.declared.requests.Protection.{Protection}
+use Rattle.ras_requests.specs.declared.requests.Protection.TheVariants as protection
+use Rattle.plan_model.specs.declared.cases.Want.{Want}
 use Rattle.plan_model.specs.declared.cases.Case.{Case}
 use Rattle.plan_model.specs.declared.cases.Assignment.{Assignment}
 use Rattle.plan_model.specs.declared.cases.Grouping.{Grouping}
 use Rattle.plan_model.specs.Units.{all_reservations, servers_with_places}
-use Rattle.plan_model.specs.Allowed.{fits, first_not_served, first_loss}
+use Rattle.plan_model.specs.Allowed.{first_not_served, first_loss}
 use Rattle.plan_model.specs.Costs.{region_cost, rack_cost}
 use Rattle.plan_model.specs.Rack.{keeps_to_chosen}
 use Rattle.ip_model.specs.declared.program.Program.{Program}
@@ -36,6 +38,28 @@ use Rattle.plan_checker.specs.declared.verdict.Verdict.TheVariants.{Yes, No}
 abbrev pub reason_if : Bool → Reason → Option Reason
 reason_if holds why = if holds then Some why else None
 
+-- ---- the protections
+
+abbrev pub same_protection : Protection → Protection → Bool
+same_protection protection.Total protection.Total = true
+same_protection protection.Total protection.Board = false
+same_protection protection.Total protection.Center = false
+same_protection protection.Board protection.Total = false
+same_protection protection.Board protection.Board = true
+same_protection protection.Board protection.Center = false
+same_protection protection.Center protection.Total = false
+same_protection protection.Center protection.Board = false
+same_protection protection.Center protection.Center = true
+
+-- the first of these reservations, from number r on, whose stated protection is not that of the case
+abbrev pub first_other : ℕ → List Protection → List Want → Option Reason
+first_other r [] wants = None
+first_other r (p ∷ ps) [] = None
+first_other r (p ∷ ps) (want ∷ wants) = option_or (reason_if (not (same_protection p want.protection)) (reason.Protection r)) (first_other (r + 1) ps wants)
+
+abbrev pub protection_reason : Case → Document → Option Reason
+protection_reason case document = first_other 0 document.protection case.wants
+
 -- ---- the plan of a part
 
 -- the first server that does not serve
@@ -45,7 +69,7 @@ serves_reason part case a = option_map (λ s. reason.Serves part s) (first_not_s
 -- the first of these reservations that does not keep its need
 abbrev pub first_need : PhaseName → Case → Assignment → List ℕ → Option Reason
 first_need part case a [] = None
-first_need part case a (r ∷ rs) = option_or (option_map (λ board. reason.Need part r board) (first_loss case a r)) (first_need part case a rs)
+first_need part case a (r ∷ rs) = option_or (option_map (λ lost. reason.Need part r lost) (first_loss case a r)) (first_need part case a rs)
 
 abbrev pub need_reason : PhaseName → Case → Assignment → Option Reason
 need_reason part case a = first_need part case a (all_reservations case)
@@ -229,10 +253,14 @@ chosen_first case document answer.Plan = chosen_reason case document
 chosen_first case document answer.Infeasible = None
 chosen_first case document answer.Limit = chosen_reason case document
 
+-- what is wrong with the parts, the first of it
+abbrev pub parts_reason : Case → Document → Option Reason
+parts_reason case document =
+    option_or (region_reason case document) (option_or (chosen_first case document document.answer) (later_reason case document document.rack document.region.plan))
+
 -- the first reason that holds
 abbrev pub first_reason : Case → Document → Option Reason
-first_reason case document =
-    option_or (region_reason case document) (option_or (chosen_first case document document.answer) (later_reason case document document.rack document.region.plan))
+first_reason case document = option_or (protection_reason case document) (parts_reason case document)
 
 abbrev pub verdict_of : Option Reason → Verdict
 verdict_of None = Yes

@@ -1,7 +1,7 @@
 -- What a document that was read keeps: its shape, and that it names what is in the case.
 use Rattle.program_rows.specs.declared.phases.Phase.{Phase}
 use Rattle.program_rows.specs.declared.phases.Phase.TheVariants.{Region, Rack}
-use Rattle.std.specs.Prelude.{ℕ, Bool, false, ◌≡◌, ◌<◌, ◌≤◌, ◌^◌, true, All, List, length, Option, Some, None, IfSome, ⊤}
+use Rattle.std.specs.Prelude.{ℕ, Bool, false, ◌≡◌, ◌<◌, ◌≤◌, ◌^◌, true, All, length, Option, Some, None, IfSome, ⊤}
 use Rattle.plan_model.specs.declared.cases.Case.{Case}
 use Rattle.plan_model.specs.Allowed.{fits}
 use Rattle.plan_document.specs.declared.part.Planned.{Planned}
@@ -54,6 +54,7 @@ pub record RackInRange (case : Case) (rack : RackPart) : Type 0 where
   pub chosen : All (λ r. r < length case.wants) rack.chosen
 
 pub record HasShape (case : Case) (document : Document) : Type 0 where
+  pub protections : length document.protection ≡ length case.wants
   pub region : PartInRange case document.region
   pub rack : IfSome document.rack (RackInRange case)
   pub members : GoesWith document.answer document.region.plan document.region.lower document.rack

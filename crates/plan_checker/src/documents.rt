@@ -9,13 +9,14 @@ ghost use Rattle.plan_checker.specs.declared.verdict.Verdict.TheVariants.{Yes};
 ghost use Rattle.plan_checker.specs.Accepted.{IsAccepted};
 ghost use Rattle.plan_checker.specs.Headline.{KeepsPromises};
 ghost use Rattle.plan_checker.specs.Shape.{HasShape, PartInRange, PlanInRange, RackInRange};
-ghost use Rattle.plan_checker.specs.Reasons.{region_plan_reason, region_reason, rack_plan_reason, rack_part_reason, chosen_first, region_last_reason, rack_last_reason, later_reason, first_reason, verdict_of, HasSoundTree};
+ghost use Rattle.plan_checker.specs.Reasons.{region_plan_reason, region_reason, rack_plan_reason, rack_part_reason, chosen_first, region_last_reason, rack_last_reason, later_reason, parts_reason, first_reason, verdict_of, HasSoundTree};
 
 use crate::budgets::spent_reason;
 use crate::certificates::certificate_reason;
 use crate::chosen::chosen_first;
 use crate::fixed::fixed_reason;
 use crate::plans::{allowed_reason, value_reason};
+use crate::protections::protection_reason;
 use crate::verdict::{PhaseName, Reason, Verdict};
 use plan_document::{Answer, Document, Planned, RackPart};
 use plan_model::{Assignment, Case, rack_cost, region_cost};
@@ -190,14 +191,14 @@ fn later_reason(
     rack_last_reason(alloc, case, document, &first.of, rack)
 }
 
-/// The first reason why a document is not accepted.
-fn first_reason(
+/// What is wrong with the parts, the first of it.
+fn parts_reason(
     alloc: Global,
     case: &Case,
     document: &Document,
 ) -> Result<Option<Reason>, AllocError>
     requires { HasShape case.now document.now }
-    ensures { IfOk result (λ reason. reason ≡ first_reason case.now document.now) }
+    ensures { IfOk result (λ reason. reason ≡ parts_reason case.now document.now) }
 {
     if let Some(reason) = region_reason(alloc, case, document)? {
         return Ok(Some(reason));
@@ -208,12 +209,27 @@ fn first_reason(
     later_reason(alloc, case, document)
 }
 
+/// The first reason why a document is not accepted.
+fn first_reason(
+    alloc: Global,
+    case: &Case,
+    document: &Document,
+) -> Result<Option<Reason>, AllocError>
+    requires { HasShape case.now document.now }
+    ensures { IfOk result (λ reason. reason ≡ first_reason case.now document.now) }
+{
+    if let Some(reason) = protection_reason(case, document) {
+        return Ok(Some(reason));
+    }
+    parts_reason(alloc, case, document)
+}
+
 /// The verdict on a document: `No` exactly with the first reason that holds, and `Yes` exactly where none holds, which is
 /// exactly where the document is accepted.
 ///
 /// Where it is `Yes`, each plan of the document binds each server to at most one reservation that it may serve, each
-/// reservation keeps its need also after the loss of any one switchboard, and the stated value is the cost and exceeds
-/// the cost of no allowed assignment by more than the stated gap. Where the document says that there is no plan, no
+/// reservation keeps its requested units, also after any one loss that its stated protection names, and the stated value
+/// is the cost and exceeds the cost of no allowed assignment by more than the stated gap. Where the document says that there is no plan, no
 /// assignment is allowed. The only fault is want of memory.
 pub fn check(alloc: Global, case: &Case, document: &Document) -> Result<Verdict, AllocError>
     requires { HasShape case.now document.now }

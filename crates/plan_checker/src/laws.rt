@@ -8,7 +8,7 @@ pub fn no_reason_keeps_promises()
     ensures { NoReasonKeepsPromises }
 {}
 
-/// No reason holds exactly where the document is accepted: each of its parts is right, its list of chosen reservations is
+/// No reason holds exactly where the document is accepted: it states the protections of the case, each of its parts is right, its list of chosen reservations is
 /// the chosen list, and its answer goes with its gaps, its leaves or its budget.
 pub fn no_reason_means_accepted()
     ensures accepted { NoReasonIsAccepted }

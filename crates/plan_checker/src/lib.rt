@@ -10,6 +10,7 @@ mod laws;
 mod lists;
 mod plans;
 mod programs;
+mod protections;
 mod verdict;
 
 pub use documents::check;

@@ -24,11 +24,11 @@ fn need_reason(part: PhaseName, case: &Case, a: &Assignment) -> Option<Reason>
     ensures { result ≡ need_reason part case.now a.now }
 {
     for r in 0..case.wants.len() {
-        if let Some(board) = first_loss(case, a, r) {
+        if let Some(lost) = first_loss(case, a, r) {
             return Some(Reason::Need {
                 phase: part,
                 r,
-                board,
+                lost,
             });
         }
     }

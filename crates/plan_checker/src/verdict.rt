@@ -1,6 +1,7 @@
 //! The verdict on a document, and the reasons why one is not accepted.
 
 use bound_certificate::TreeWhy;
+use plan_model::Lost;
 
 /// One of the two parts of a document.
 #[derive(Clone, Copy, Debug, PartialEq)]
@@ -14,17 +15,21 @@ pub enum PhaseName {
 /// Why a document is not accepted.
 #[derive(Clone, Copy, Debug, PartialEq)]
 pub enum Reason {
+    /// The stated protection of a reservation is not that of the case. The first such reservation.
+    Protection {
+        r: u32,
+    },
     /// A server is bound to a reservation that it cannot serve. The first such server.
     Serves {
         phase: PhaseName,
         server: u32,
     },
-    /// A reservation does not keep its need. The first such reservation, with None where its total is too small,
-    /// else with the first switchboard whose loss it does not survive.
+    /// A reservation does not keep its need. The first such reservation, with `Total` where its total is too small, else
+    /// with the first switchboard or datacenter whose loss leaves too little, of those that its protection names.
     Need {
         phase: PhaseName,
         r: u32,
-        board: Option<u32>,
+        lost: Lost,
     },
     /// The stated value is not the cost of the stated assignment.
     Value {

@@ -4,9 +4,11 @@ use Rattle.std.specs.Ordering.{nat_cmp, match_ordering}
 use Rattle.std.specs.Cmp.Lexicographic.{slice_cmp}
 use Rattle.serde_json.specs.Data.{string, Members, no_members, member, put, depth, items_depth, members_depth}
 use Rattle.serde_json.specs.View.{items_of}
+use Rattle.ras_requests.specs.declared.requests.Protection.{Protection}
+use Rattle.ras_requests.specs.Protections.{protection_text}
 use Rattle.plan_document.specs.Parts.{SeenPart}
 use Rattle.plan_document.specs.Documents.{SeenDocument}
-use Rattle.plan_document.specs.Written.{num, flat, weights_data, shown_items, node_data, nodes_data, name_of, put_places, assignment_data, chosen_data, bound_data, region_data, rack_data, rack_member, document_data}
+use Rattle.plan_document.specs.Written.{num, flat, weights_data, shown_items, node_data, nodes_data, name_of, put_places, put_protections, protection_data, assignment_data, chosen_data, bound_data, region_data, rack_data, rack_member, document_data}
 use Rattle.plan_document.specs.declared.shape.Weights.{Weights}
 use Rattle.plan_document.specs.declared.shape.Fractions.{Fractions}
 use Rattle.plan_document.specs.declared.shape.Shape.{Shape}
@@ -96,7 +98,15 @@ pub rack_member-deep : (servers reservations : List (List ℕ)) (r : Option Seen
 rack_member-deep servers reservations None ms h = h
 rack_member-deep servers reservations (Some r) ms h = max-most 4 _ _ (rack-deep servers reservations r.chosen r.plan r.lower r.nodes) h
 
+protections-low : (reservations : List (List ℕ)) (n : ℕ) (ps : List Protection) (ms : Members) → members_depth ms ≤ 0 → members_depth (put_protections reservations n ps ms) ≤ 0
+protections-low reservations n [] ms h = h
+protections-low reservations n (p ∷ ps) ms h =
+    protections-low reservations (n + 1) ps (put (name_of reservations n) (string (protection_text p)) ms) (put-deep (name_of reservations n) (protection_text p) ms h)
+
+pub protections-deep : (reservations : List (List ℕ)) (ps : List Protection) → depth (protection_data reservations ps) ≤ 4
+protections-deep reservations ps = omega (arith, deeper 0 _ (protections-low reservations 0 ps no_members (omega arith)))
+
 pub document-deep : (servers reservations : List (List ℕ)) (d : SeenDocument) → depth (document_data servers reservations d) ≤ 5
 document-deep servers reservations d =
-    deeper 4 _ (max-most 4 0 _ (omega arith) (max-most 4 0 _ (omega arith) (max-most 4 0 _ (omega arith) (max-most 4 0 _ (omega arith) (max-most 4 0 _ (omega arith)
-    (rack_member-deep servers reservations d.rack _ (max-most 4 0 _ (omega arith) (max-most 4 _ 0 (region-deep servers reservations d.region.plan d.region.lower d.region.nodes) (omega arith)))))))))
+    deeper 4 _ (max-most 4 0 _ (omega arith) (max-most 4 0 _ (omega arith) (max-most 4 0 _ (omega arith) (max-most 4 0 _ (omega arith) (max-most 4 0 _ (omega arith) (max-most 4 _ _ (protections-deep reservations d.protection)
+    (rack_member-deep servers reservations d.rack _ (max-most 4 0 _ (omega arith) (max-most 4 _ 0 (region-deep servers reservations d.region.plan d.region.lower d.region.nodes) (omega arith))))))))))

@@ -6,6 +6,8 @@ pub mod WrittenLemmas
 pub mod LawLemmas
 pub mod AssignmentLaw
 pub mod PartLaw
+pub mod ProtectionLaw
+pub mod ProtectionInverse
 pub mod RegionLaw
 pub mod LineFeed
 pub mod Depths

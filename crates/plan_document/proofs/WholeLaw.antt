@@ -28,7 +28,7 @@ use Rattle.plan_document.proofs.PartLaw.{AllWritten, AreServers}
 use Rattle.plan_document.proofs.RegionLaw.{stated_by, region-written}
 use Rattle.plan_document.proofs.RackLaw.{rack-written}
 use Rattle.plan_document.proofs.ShortLaw.{short-written}
-use Rattle.plan_document.proofs.TopLaw.{rack_written, top-written, document-steps}
+use Rattle.plan_document.proofs.TopLaw.{rack_written, named-written, top-written, document-steps}
 use Rattle.plan_document.proofs.RangeLaw.{both-are, nodes-fit}
 use Rattle.plan_document.proofs.NamesLaw.{servers-numbered, servers-apart, places-named, chosen-named}
 
@@ -95,9 +95,10 @@ value-again servers reservations apart differ d h =
     let known = servers-numbered reservations differ in
     let e = seen_document d in
     document-steps servers reservations e
-    (top-written servers reservations e refl
+    (top-written servers reservations e
     (both-are _ _ (both-are _ _ (both-are _ _ (le-leb d.gap 1000000000000 h.gap_most) (le-leb 1 d.nodes h.nodes_least)) (le-leb d.nodes 20000 h.nodes_most)) (le-leb d.racks 64 h.racks_most))
     (λ some. h.beside (sym (beside-seen d.rack) ∙ some)))
+    (named-written servers reservations known (servers-apart reservations known) e h.protections)
     (region-part servers reservations there known (form_of d.answer (is_some d.region.plan)) d.region h.region)
     (rack-part servers reservations there known d.rack h.rack)
 

@@ -7,9 +7,11 @@ use Rattle.std.proofs.Common.{Ordering, Less, Equal, Greater}
 use Rattle.serde_json.specs.Data.{string, Members, no_members, member, put}
 use Rattle.serde_json.specs.View.{items_of}
 use Rattle.serde_json.specs.Written.{has_float, items_have_float, members_have_float}
+use Rattle.ras_requests.specs.declared.requests.Protection.{Protection}
+use Rattle.ras_requests.specs.Protections.{protection_text}
 use Rattle.plan_document.specs.Parts.{SeenPart}
 use Rattle.plan_document.specs.Documents.{SeenDocument}
-use Rattle.plan_document.specs.Written.{num, flat, weights_data, shown_items, node_data, name_of, put_places, bound_data, region_data, rack_data, rack_member, document_data}
+use Rattle.plan_document.specs.Written.{num, flat, weights_data, shown_items, node_data, name_of, put_places, put_protections, bound_data, region_data, rack_data, rack_member, document_data}
 use Rattle.plan_document.specs.declared.shape.Weights.{Weights}
 use Rattle.plan_document.specs.declared.shape.Fractions.{Fractions}
 use Rattle.plan_document.specs.declared.shape.Shape.{Shape}
@@ -80,6 +82,13 @@ pub rack_member-none : (servers reservations : List (List ℕ)) (r : Option Seen
 rack_member-none servers reservations None ms h = h
 rack_member-none servers reservations (Some r) ms h = or-false _ _ (rack-none servers reservations r.chosen r.plan r.lower r.nodes) h
 
+pub protections-none : (reservations : List (List ℕ)) (n : ℕ) (ps : List Protection) (ms : Members) → members_have_float ms ≡ false
+    → members_have_float (put_protections reservations n ps ms) ≡ false
+protections-none reservations n [] ms h = h
+protections-none reservations n (p ∷ ps) ms h =
+    protections-none reservations (n + 1) ps (put (name_of reservations n) (string (protection_text p)) ms) (put-none (name_of reservations n) (protection_text p) ms h)
+
 pub document-none : (servers reservations : List (List ℕ)) (d : SeenDocument) → has_float (document_data servers reservations d) ≡ false
 document-none servers reservations d =
-    rack_member-none servers reservations d.rack _ (or-false _ false (region-none servers reservations d.region.plan d.region.lower d.region.nodes) refl)
+    or-false _ _ (protections-none reservations 0 d.protection no_members refl)
+    (rack_member-none servers reservations d.rack _ (or-false _ false (region-none servers reservations d.region.plan d.region.lower d.region.nodes) refl))

@@ -4,6 +4,7 @@ pub mod Seen
 pub mod Faults
 pub mod Members
 pub mod Parts
+pub mod Protections
 pub mod Documents
 pub mod Written
 pub mod Writable

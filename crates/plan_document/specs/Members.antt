@@ -33,6 +33,10 @@ abbrev pub are_texts : Members → Bool
 are_texts no_members = true
 are_texts (member k d ms) = is_text d && are_texts ms
 
+abbrev pub members_are_texts : Option Members → Bool
+members_are_texts None = false
+members_are_texts (Some ms) = are_texts ms
+
 -- the number of the name that a value is
 abbrev pub numbered : List (List ℕ) → Data → Option ℕ
 numbered names d = option_and_then (number_of names) (as_str d)

@@ -5,7 +5,7 @@ use Rattle.serde_json.specs.Data.{Data, Members}
 use Rattle.serde_json.specs.Find.{get, as_object}
 use Rattle.plan_model.specs.declared.Assignment.{Assignment}
 use Rattle.plan_document.specs.Numbers.{entries_of}
-use Rattle.plan_document.specs.Members.{is_object_of, needed_whole, is_text, are_texts, numbered, are_known}
+use Rattle.plan_document.specs.Members.{is_object_of, needed_whole, is_text, members_are_texts, numbered, are_known}
 use Rattle.plan_document.specs.Seen.{seen_node}
 use Rattle.plan_document.specs.Faults.{ok_or, and_then, node_at}
 use Rattle.plan_document.specs.declared.shape.Shape.{Shape}
@@ -42,10 +42,6 @@ abbrev pub stated_of : Form → Data → Option Stated
 stated_of f d = option_and_then (λ claim. option_and_then (λ lower. Some (record { claim = claim; lower = lower })) (lower_of f d)) (claim_of f d)
 
 -- its assignment is an object of texts
-abbrev pub members_are_texts : Option Members → Bool
-members_are_texts None = false
-members_are_texts (Some ms) = are_texts ms
-
 abbrev pub assignment_shaped : Form → Data → Bool
 assignment_shaped form.Planned d = members_are_texts (option_and_then as_object (get (codes "assignment") d))
 assignment_shaped form.Bounded d = true

@@ -56,12 +56,13 @@ pub record RackCanBeWritten (servers reservations : List (List ℕ)) (r : RackPa
   pub chosen_most : length r.chosen ≤ 64
   pub chosen_there : All (λ n. n < length reservations) r.chosen
 
--- each part has the form that the answer asks for, and each number is in its range
+-- each reservation has a protection, each part has the form that the answer asks for, and each number is in its range
 pub record CanBeWritten (servers reservations : List (List ℕ)) (d : Document) : Type 0 where
   pub gap_most : d.gap ≤ 1000000000000
   pub nodes_least : 1 ≤ d.nodes
   pub nodes_most : d.nodes ≤ 20000
   pub racks_most : d.racks ≤ 64
+  pub protections : length d.protection ≡ length reservations
   pub region : PartCanBeWritten servers reservations (form_of d.answer (is_some d.region.plan)) d.region
   pub rack : IfSome d.rack (RackCanBeWritten servers reservations)
   pub beside : is_some d.rack ≡ true → may_have_rack (form_of d.answer (is_some d.region.plan)) ≡ true

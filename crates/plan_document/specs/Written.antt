@@ -3,6 +3,8 @@ use Rattle.std.specs.Prelude.{ℕ, ◌+◌, List, [], ◌∷◌, ◌++◌, map, 
 use Rattle.serde_json.specs.Data.{unsigned, Data, number, string, array, object, Items, no_items, item, Members, no_members, member, put}
 use Rattle.serde_json.specs.View.{items_of}
 use Rattle.serde_json.specs.Written.{compact_text}
+use Rattle.ras_requests.specs.Protections.{protection_text}
+use Rattle.ras_requests.specs.declared.requests.Protection.{Protection}
 use Rattle.plan_model.specs.declared.Grouping.{Grouping}
 use Rattle.plan_model.specs.declared.Grouping.TheVariants as grouping
 use Rattle.plan_document.specs.Parts.{SeenPart}
@@ -14,6 +16,7 @@ use Rattle.plan_document.specs.declared.shape.Cut.{Cut}
 use Rattle.plan_document.specs.declared.shape.Shape.{Shape}
 use Rattle.plan_document.specs.declared.shape.Shape.TheVariants.{Split, Bound, Refute}
 use Rattle.plan_document.specs.declared.part.Planned.{Planned}
+use Rattle.plan_document.specs.declared.document.Head.{Head}
 use Rattle.plan_document.specs.declared.document.Answer.{Answer}
 use Rattle.plan_document.specs.declared.document.Answer.TheVariants as answer
 
@@ -96,6 +99,14 @@ abbrev pub rack_data : List (List ℕ) → List (List ℕ) → List ℕ → Opti
 rack_data servers reservations chosen None lower nodes = bound_data lower nodes
 rack_data servers reservations chosen (Some p) lower nodes = rack_planned servers reservations chosen p lower nodes
 
+-- the protections: a member for each reservation
+abbrev pub put_protections : List (List ℕ) → ℕ → List Protection → Members → Members
+put_protections reservations n [] ms = ms
+put_protections reservations n (p ∷ ps) ms = put_protections reservations (n + 1) ps (put (name_of reservations n) (string (protection_text p)) ms)
+
+abbrev pub protection_data : List (List ℕ) → List Protection → Data
+protection_data reservations ps = object (put_protections reservations 0 ps no_members)
+
 -- the texts of answers and groupings
 abbrev pub answer_text : Answer → List ℕ
 answer_text answer.Plan = codes "plan"
@@ -106,21 +117,35 @@ abbrev pub grouping_text : Grouping → List ℕ
 grouping_text grouping.Single = codes "single"
 grouping_text grouping.Class = codes "class"
 
--- the whole: the rack part, where there is one, stands between two other members
+-- the whole, in format 2: the rack part, where there is one, stands between two other members
 abbrev pub rack_member : List (List ℕ) → List (List ℕ) → Option SeenPart → Members → Members
 rack_member servers reservations None ms = ms
 rack_member servers reservations (Some r) ms = member (codes "rack") (rack_data servers reservations r.chosen r.plan r.lower r.nodes) ms
 
+-- the same of a document with a rack part, by the values of its parts
+abbrev pub racked_data : Head → Data → Data → Data → Data
+racked_data h protection rack region = object
+    (member (codes "answer") (string (answer_text h.answer))
+    (member (codes "format") (num 2)
+    (member (codes "gap") (num h.gap)
+    (member (codes "grouping") (string (grouping_text h.grouping))
+    (member (codes "nodes") (num h.nodes)
+    (member (codes "protection") protection
+    (member (codes "rack") rack
+    (member (codes "racks") (num h.racks)
+    (member (codes "region") region no_members)))))))))
+
 abbrev pub document_data : List (List ℕ) → List (List ℕ) → SeenDocument → Data
 document_data servers reservations d = object
     (member (codes "answer") (string (answer_text d.head.answer))
-    (member (codes "format") (num d.head.format)
+    (member (codes "format") (num 2)
     (member (codes "gap") (num d.head.gap)
     (member (codes "grouping") (string (grouping_text d.head.grouping))
     (member (codes "nodes") (num d.head.nodes)
+    (member (codes "protection") (protection_data reservations d.protection)
     (rack_member servers reservations d.rack
     (member (codes "racks") (num d.head.racks)
-    (member (codes "region") (region_data servers reservations d.region.plan d.region.lower d.region.nodes) no_members))))))))
+    (member (codes "region") (region_data servers reservations d.region.plan d.region.lower d.region.nodes) no_members)))))))))
 
 -- the text of a document: the compact text of its value, and a line feed
 abbrev pub document_text : List (List ℕ) → List (List ℕ) → SeenDocument → List ℕ

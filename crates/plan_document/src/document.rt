@@ -1,22 +1,24 @@
 ghost use Rattle.std.specs.Prelude.{◌≡◌, ◌≤◌, ◌<◌, ◌*◌, ◌^◌, IfOk, Some, None, [], option_map, option_and_then, is_some, length, codes};
 ghost use Rattle.csv.specs.Reading.{strip_bom};
-ghost use Rattle.serde_json.specs.Find.{get};
+ghost use Rattle.serde_json.specs.Find.{get, as_object};
 ghost use Rattle.serde_json.specs.View.{view};
 ghost use Rattle.ras_table.specs.Answers.{Gives};
 ghost use Rattle.ras_inventory.specs.RegionRule.{server_names};
 ghost use Rattle.ras_requests.specs.RequestsRule.{reservation_names};
 ghost use Rattle.plan_document.specs.Sizes.{size};
+ghost use Rattle.plan_document.specs.Members.{is_object_of};
 ghost use Rattle.plan_document.specs.Parts.{seen_part};
 ghost use Rattle.plan_document.specs.Writable.{CanBeWritten};
 ghost use Rattle.plan_document.specs.Faults.{told};
-ghost use Rattle.plan_document.specs.Documents.{json_of, ValueOf, answer_named, grouping_named, text_at, head_of, has_member, region_has_assignment, form_of, may_have_rack, rack_allowed, top_shape, head_fits, top_of, ranged_head, region_in, rack_in, seen_rack, seen_document, document_in, document_of};
+ghost use Rattle.plan_document.specs.Documents.{json_of, ValueOf, answer_named, grouping_named, text_at, head_of, has_member, is_format, region_has_assignment, form_of, may_have_rack, rack_allowed, top_names, top_members, top_shape, head_fits, top_of, ranged_head, named_top, region_in, rack_in, seen_rack, seen_document, document_in, document_of};
 
 use crate::fault::{DocFault, DocPlace, DocWhy};
 use crate::part::{Form, Part, RackPart, is_object_of, needed_whole, part_at};
+use crate::protections::{protection_fits, protection_shaped, protections_of};
 use plan_model::Grouping;
 use ras_inventory::Region;
-use ras_requests::Requests;
-use ras_table::without_mark;
+use ras_requests::{Protection, Requests};
+use ras_table::{List, without_mark};
 use serde_json::Value;
 use std::alloc::Global;
 
@@ -48,6 +50,8 @@ pub struct Document {
     pub region: Part,
     /// What is shown for the racks of the chosen reservations, where that was planned.
     pub rack: Option<RackPart>,
+    /// What each reservation survives by what is planned, one for each reservation of the requests.
+    pub protection: List<Protection>,
 }
 
 /// The members of the top that are not parts.
@@ -55,8 +59,6 @@ pub struct Document {
 pub struct Head {
     /// What is answered.
     pub answer: Answer,
-    /// The version of the format, which is 1.
-    pub format: u64,
     /// The wanted gap.
     pub gap: u64,
     /// How servers are grouped.
@@ -151,14 +153,12 @@ fn head_of(value: &Value) -> Option<Head>
     ensures { result ≡ head_of (view value.now) }
 {
     let answer = answer_in(value)?;
-    let format = needed_whole(value, "format")?;
     let gap = needed_whole(value, "gap")?;
     let grouping = grouping_in(value)?;
     let nodes = needed_whole(value, "nodes")?;
     let racks = needed_whole(value, "racks")?;
     Some(Head {
         answer,
-        format,
         gap,
         grouping,
         nodes,
@@ -218,19 +218,60 @@ fn rack_allowed(value: &Value, head: Head) -> bool
     !has_member(value, "rack") || may_have_rack(form_of(head.answer, region_has_assignment(value)))
 }
 
+// Whether the format is this one.
+fn is_format(value: &Value, format: u64) -> bool
+    ensures { result ≡ is_format format (view value.now) }
+{
+    match needed_whole(value, "format") {
+        Some(found) => found == format,
+        None => false,
+    }
+}
+
+// Whether the top has no other members than those of its format.
+fn has_top_names(second: bool, value: &Value) -> bool
+    ensures { result ≡ is_object_of (top_names second) (as_object (view value.now)) }
+{
+    if second {
+        is_object_of(
+            value,
+            &[
+                "answer",
+                "format",
+                "gap",
+                "grouping",
+                "nodes",
+                "protection",
+                "rack",
+                "racks",
+                "region",
+            ],
+        )
+    } else {
+        is_object_of(
+            value,
+            &[
+                "answer", "format", "gap", "grouping", "nodes", "rack", "racks", "region",
+            ],
+        )
+    }
+}
+
+// Whether the top has the members of its format that no answer changes.
+fn top_members(second: bool, value: &Value) -> bool
+    ensures { result ≡ top_members second (view value.now) }
+{
+    has_top_names(second, value)
+        && has_member(value, "region")
+        && needed_whole(value, "format").is_some()
+        && protection_shaped(second, value)
+}
+
 // The members of the top that are not parts, if the top has its shape.
 fn top_shape(value: &Value) -> Option<Head>
     ensures { result ≡ top_shape (view value.now) }
 {
-    if !is_object_of(
-        value,
-        &[
-            "answer", "format", "gap", "grouping", "nodes", "rack", "racks", "region",
-        ],
-    ) {
-        return None;
-    }
-    if !has_member(value, "region") {
+    if !top_members(is_format(value, 2), value) {
         return None;
     }
     let head = head_of(value)?;
@@ -251,7 +292,6 @@ fn head_fits(head: Head) -> bool
 // The members of the top that are not parts, or the first fault of the top.
 fn top_of(value: &Value) -> Result<Head, DocFault>
     ensures is { Gives (λ h. h) told result (top_of (view value.now)) }
-    ensures format { IfOk result (λ h. h.format ≡ 1) }
     ensures nodes { IfOk result (λ h. h.nodes ≤ 20000) }
     ensures racks { IfOk result (λ h. h.racks ≤ 64) }
 {
@@ -261,19 +301,36 @@ fn top_of(value: &Value) -> Result<Head, DocFault>
             why: DocWhy::Shape,
         });
     };
-    if head.format != 1 {
+    if !is_format(value, 1) && !is_format(value, 2) {
         return Err(DocFault::At {
             place: DocPlace::Top,
             why: DocWhy::Format,
         });
     }
-    if !head_fits(head) {
+    if !head_fits(head) || !protection_fits(is_format(value, 2), value) {
         return Err(DocFault::At {
             place: DocPlace::Top,
             why: DocWhy::Range,
         });
     }
     Ok(head)
+}
+
+// The protections that the top states, or its fault of a name.
+fn named_top(
+    alloc: Global,
+    requests: &Requests,
+    value: &Value,
+) -> Result<List<Protection>, DocFault>
+    ensures { Gives (λ found. found) told result (named_top (reservation_names requests.now.list) (view value.now)) }
+{
+    match protections_of(alloc, requests, is_format(value, 2), value)? {
+        Some(found) => Ok(found),
+        None => Err(DocFault::At {
+            place: DocPlace::Top,
+            why: DocWhy::Name,
+        }),
+    }
 }
 
 // The region part, or its first fault.
@@ -328,6 +385,7 @@ fn document_in(
         (document_in (server_names region.now.servers) (reservation_names requests.now.list) (view value.now)) }
 {
     let head = top_of(value)?;
+    let protection = named_top(alloc, requests, value)?;
     let form = form_of(head.answer, region_has_assignment(value));
     let part = region_in(alloc, region, requests, form, value)?;
     let rack = rack_in(alloc, region, requests, value)?;
@@ -339,6 +397,7 @@ fn document_in(
         racks: head.racks as u32,
         region: part,
         rack,
+        protection,
     })
 }
 
@@ -346,7 +405,8 @@ fn document_in(
 /// and reservations by the requests, and each place of an assignment is that of the region's server with its number.
 ///
 /// The top is tested first, then the region part and its nodes in order, then the rack part and its nodes: of each its
-/// shape, then its ranges, and of a part then the names in it. `Memory` alone says nothing of the bytes.
+/// shape, of the top then its format, then its ranges, and of the top and of a part then the names in it. `Memory` alone
+/// says nothing of the bytes.
 pub fn read_document(
     alloc: Global,
     region: &Region,

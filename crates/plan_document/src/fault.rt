@@ -10,13 +10,13 @@ pub enum DocWhy {
     /// A member is missing, further or of another kind, or a list has the wrong length or order.
     #[error("shape")]
     Shape,
-    /// The format is another one.
+    /// The format is neither 1 nor 2.
     #[error("format")]
     Format,
-    /// A whole number is outside its range.
+    /// A whole number is outside its range, or a text is that of no protection.
     #[error("range")]
     Range,
-    /// A server or a reservation is unknown.
+    /// A server or a reservation is unknown, or a reservation has no protection.
     #[error("name")]
     Name,
 }

@@ -180,8 +180,8 @@ fn stated_of(form: Form, value: &Value) -> Option<Stated>
     Some(Stated { claim, lower })
 }
 
-// Whether each member is a text.
-fn are_texts(members: &Map<String, Value>) -> bool
+/// Whether each member is a text.
+pub fn are_texts(members: &Map<String, Value>) -> bool
     ensures { result ≡ are_texts (members_view members.now.entries) }
 {
     for (_, value) in members.iter() {

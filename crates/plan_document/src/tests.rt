@@ -1,12 +1,14 @@
 use crate::{DocFault, read_document, write_document};
 use ras_inventory::{Region, read_region};
-use ras_requests::{Moves, Requests, Reservation};
+use ras_requests::{Moves, Protection, Requests, Reservation};
 use ras_table::{List, Name};
 use std::alloc::Global;
 use std::test::Fail;
 
 const PLAN: &str =
     "{\"assignment\":{\"s1\":\"a\",\"s2\":\"a\"},\"gap\":0,\"lower\":4,\"tree\":[[\"bound\",1,[7,2]]],\"value\":4}";
+
+const PROTECTED: &str = "\"protection\":{\"a\":\"datacenter\"},";
 
 // Three servers, each on a switchboard of its own.
 fn region(alloc: Global) -> Result<Region, Fail> {
@@ -27,6 +29,7 @@ fn requests(alloc: Global) -> Result<Requests, Fail> {
         rack_limit: 0,
         rack_weight: 0,
         near: List::new(alloc, 0).ok().ok_or("wishes")?,
+        protection: Protection::Board,
     };
     let mut list = List::new(alloc, 1).ok().ok_or("a list")?;
     list.push(reservation).ok().ok_or("memory")?;
@@ -38,7 +41,7 @@ fn requests(alloc: Global) -> Result<Requests, Fail> {
     Ok(Requests { moves, list })
 }
 
-// The text of a document with these pieces. The rack part stands before `racks` and ends with a comma.
+// The text of a document with these pieces. The protections and the rack part stand before `racks` and end with a comma.
 fn text_of(
     alloc: Global,
     answer: &str,
@@ -105,6 +108,11 @@ fn rack_tells(alloc: Global, chosen: &str, tree: &str, words: &str) -> Result<bo
 
 // Whether a document is written as it was read, with a line feed.
 fn is_kept(alloc: Global, text: &str) -> Result<bool, Fail> {
+    is_written_as(alloc, text, text)
+}
+
+// Whether a document is written as this text with a line feed.
+fn is_written_as(alloc: Global, text: &str, again: &str) -> Result<bool, Fail> {
     if text.len() > 10_000 {
         return Err(Fail::from("a long text"));
     }
@@ -116,15 +124,59 @@ fn is_kept(alloc: Global, text: &str) -> Result<bool, Fail> {
     let written = write_document(alloc, &region, &requests, &document)
         .ok()
         .ok_or("a text")?;
-    let line = format!(in alloc; "{text}\n").ok().ok_or("a text")?;
+    let line = format!(in alloc; "{again}\n").ok().ok_or("a text")?;
     Ok(written.as_slice() == line.as_bytes())
 }
 
 #[test]
 fn a_plan_is_kept(rt: HostRuntime) -> Result<(), Fail> {
-    let text = text_of(rt.alloc(), "plan", 1, 100, "", PLAN)?;
+    let text = text_of(rt.alloc(), "plan", 2, 100, PROTECTED, PLAN)?;
     let kept = is_kept(rt.alloc(), text.as_str())?;
     assert!(rt; kept);
+    Ok(())
+}
+
+#[test]
+fn format_1_is_written_as_format_2(rt: HostRuntime) -> Result<(), Fail> {
+    let text = text_of(rt.alloc(), "plan", 1, 100, "", PLAN)?;
+    let board = "\"protection\":{\"a\":\"switchboard\"},";
+    let again = text_of(rt.alloc(), "plan", 2, 100, board, PLAN)?;
+    let written = is_written_as(rt.alloc(), text.as_str(), again.as_str())?;
+    assert!(rt; written);
+    Ok(())
+}
+
+// Whether a plan with these protections is refused with a fault of these words.
+fn protection_tells(
+    alloc: Global,
+    format: u32,
+    protection: &str,
+    words: &str,
+) -> Result<bool, Fail> {
+    let text = text_of(alloc, "plan", format, 100, protection, "{}")?;
+    tells(alloc, text.as_str(), words)
+}
+
+#[test]
+fn faults_of_the_protections(rt: HostRuntime) -> Result<(), Fail> {
+    let alloc = rt.alloc();
+    let further = protection_tells(alloc, 1, PROTECTED, "top: shape")?;
+    assert!(rt; further);
+    let absent = protection_tells(alloc, 2, "", "top: shape")?;
+    assert!(rt; absent);
+    let number = protection_tells(alloc, 2, "\"protection\":{\"a\":7},", "top: shape")?;
+    assert!(rt; number);
+    let text = protection_tells(alloc, 2, "\"protection\":{\"b\":\"rack\"},", "top: range")?;
+    assert!(rt; text);
+    let unknown = protection_tells(
+        alloc,
+        2,
+        "\"protection\":{\"a\":\"none\",\"b\":\"none\"},",
+        "top: name",
+    )?;
+    assert!(rt; unknown);
+    let missing = protection_tells(alloc, 2, "\"protection\":{},", "top: name")?;
+    assert!(rt; missing);
     Ok(())
 }
 
@@ -133,9 +185,9 @@ fn a_refutation_is_kept(rt: HostRuntime) -> Result<(), Fail> {
     let text = text_of(
         rt.alloc(),
         "infeasible",
+        2,
         1,
-        1,
-        "",
+        PROTECTED,
         "{\"tree\":[[\"refute\",1,[7,1]]]}",
     )?;
     let kept = is_kept(rt.alloc(), text.as_str())?;
@@ -147,7 +199,7 @@ fn a_refutation_is_kept(rt: HostRuntime) -> Result<(), Fail> {
 fn a_shown_point_is_kept(rt: HostRuntime) -> Result<(), Fail> {
     let region =
         "{\"lower\":4,\"tree\":[[\"split\",0,0,1,2,2,[0,4294967294],[1,0]],[\"bound\",1,[]],[\"refute\",1,[7,2]]]}";
-    let text = text_of(rt.alloc(), "limit", 1, 1, "", region)?;
+    let text = text_of(rt.alloc(), "limit", 2, 1, PROTECTED, region)?;
     let kept = is_kept(rt.alloc(), text.as_str())?;
     assert!(rt; kept);
     Ok(())
@@ -156,7 +208,10 @@ fn a_shown_point_is_kept(rt: HostRuntime) -> Result<(), Fail> {
 #[test]
 fn a_rack_part_is_kept(rt: HostRuntime) -> Result<(), Fail> {
     let rack = rack_of(rt.alloc(), "[\"a\"]", "[[\"bound\",1,[]]]")?;
-    let text = text_of(rt.alloc(), "limit", 1, 100, rack.as_str(), PLAN)?;
+    let both = format!(in rt.alloc(); "{PROTECTED}{rack}")
+        .ok()
+        .ok_or("a text")?;
+    let text = text_of(rt.alloc(), "limit", 2, 100, both.as_str(), PLAN)?;
     let kept = is_kept(rt.alloc(), text.as_str())?;
     assert!(rt; kept);
     Ok(())
@@ -203,7 +258,7 @@ fn faults_of_the_top(rt: HostRuntime) -> Result<(), Fail> {
     let answer = text_of(alloc, "maybe", 2, 0, "", PLAN)?;
     let shape = tells(alloc, answer.as_str(), "top: shape")?;
     assert!(rt; shape);
-    let version = text_of(alloc, "plan", 2, 0, "", "{}")?;
+    let version = text_of(alloc, "plan", 3, 0, "", "{}")?;
     let format = tells(alloc, version.as_str(), "top: format")?;
     assert!(rt; format);
     let budget = text_of(alloc, "plan", 1, 20001, "", "{}")?;

@@ -9,7 +9,7 @@ ghost use Rattle.plan_document.specs.Parts.{seen_part};
 ghost use Rattle.plan_document.specs.declared.shape.Shape.{Shape};
 ghost use Rattle.plan_document.specs.Documents.{seen_document, seen_rack, document_of};
 ghost use Rattle.plan_document.specs.Writable.{CanBeWritten};
-ghost use Rattle.plan_document.specs.Written.{num, numbers_data, flat, weights_data, cut_data, node_data, nodes_data, name_of, put_place, put_places, assignment_data, chosen_data, planned_data, bound_data, region_data, rack_planned, rack_data, answer_text, grouping_text, document_data, document_text};
+ghost use Rattle.plan_document.specs.Written.{num, numbers_data, flat, weights_data, cut_data, node_data, nodes_data, name_of, put_place, put_places, assignment_data, chosen_data, planned_data, bound_data, region_data, rack_planned, rack_data, put_protections, protection_data, answer_text, grouping_text, racked_data, document_data, document_text};
 
 use crate::document::{Answer, Document};
 use crate::part::{Part, Planned, RackPart};
@@ -17,7 +17,7 @@ use bound_certificate::{Multipliers, Node, Top};
 use ip_model::Point;
 use plan_model::Grouping;
 use ras_inventory::Region;
-use ras_requests::Requests;
+use ras_requests::{Protection, Requests, protection_text};
 use ras_table::List;
 use serde_json::{Map, Value, json};
 use std::alloc::{AllocError, Global};
@@ -236,6 +236,24 @@ fn rack_value(
     }
 }
 
+// The protections, by the names of the reservations.
+fn protection_value(
+    alloc: Global,
+    requests: &Requests,
+    protections: &[Protection],
+) -> Result<Value, AllocError>
+    requires { length protections.now < 2 ^ 32 }
+    ensures { IfOk result (λ v. view v ≡ protection_data (reservation_names requests.now.list) protections.now) }
+{
+    let mut members = Map::new(alloc);
+    for n in 0..protections.len() {
+        let name = reservation_name(requests, n as u32);
+        let text = Value::try_from_str(alloc, protection_text(protections[n]))?;
+        serde_json::put(&mut members, alloc, name, text)?;
+    }
+    Ok(Value::from(members))
+}
+
 fn answer_text(answer: Answer) -> &'static str
     ensures { result.now ≡ answer_text answer }
 {
@@ -255,6 +273,24 @@ fn grouping_text(grouping: Grouping) -> &'static str
     }
 }
 
+// The value of a document with a rack part, by those of its parts.
+fn racked_value(
+    alloc: Global,
+    document: &Document,
+    protection: Value,
+    rack: Value,
+    region: Value,
+) -> Result<Value, AllocError>
+    ensures { IfOk result (λ v. view v ≡ racked_data (seen_document document.now).head (view protection) (view rack) (view region)) }
+{
+    let answer = answer_text(document.answer);
+    let grouping = grouping_text(document.grouping);
+    let gap = document.gap;
+    let nodes = document.nodes;
+    let racks = document.racks;
+    json!(in alloc; {"answer": answer, "format": 2u32, "gap": gap, "grouping": grouping, "nodes": nodes, "protection": protection, "rack": rack, "racks": racks, "region": region})
+}
+
 // The value of a document.
 fn document_value(
     alloc: Global,
@@ -270,13 +306,14 @@ fn document_value(
     let nodes = document.nodes;
     let racks = document.racks;
     let part = region_value(alloc, region, requests, &document.region)?;
+    let protection = protection_value(alloc, requests, document.protection.as_slice())?;
     match &document.rack {
         None => {
-            json!(in alloc; {"answer": answer, "format": 1u32, "gap": gap, "grouping": grouping, "nodes": nodes, "racks": racks, "region": part})
+            json!(in alloc; {"answer": answer, "format": 2u32, "gap": gap, "grouping": grouping, "nodes": nodes, "protection": protection, "racks": racks, "region": part})
         }
         Some(rack) => {
             let rack = rack_value(alloc, region, requests, rack)?;
-            json!(in alloc; {"answer": answer, "format": 1u32, "gap": gap, "grouping": grouping, "nodes": nodes, "rack": rack, "racks": racks, "region": part})
+            racked_value(alloc, document, protection, rack, part)
         }
     }
 }
@@ -292,7 +329,7 @@ fn listed(bytes: Vec<u8>) -> Result<List<u8>, AllocError>
     }
 }
 
-/// The text of a document: the compact JSON text of its value, and a line feed. A server without a reservation is not
+/// The text of a document in format 2: the compact JSON text of its value, and a line feed. A server without a reservation is not
 /// named in an assignment. The text of a document that the format can state is read again as that document.
 pub fn write_document(
     alloc: Global,

@@ -2,7 +2,8 @@
 use Rattle.std.proofs.Common.{◌≡◌, ℕ, zero, suc, ◌<◌, ◌≤◌, refl, sym, ap, ◌∙◌, subst, arith, Bool, true, false, cond, List, [], length, take, nat_le, Option, Some, None, is_some}
 use Rattle.std.specs.Prelude.{IfSome}
 use Rattle.std.specs.Option.{IsSomeAnd}
-use Rattle.std.proofs.lemmas.List.{length-take}
+use Rattle.std.proofs.lemmas.List.{length-take, length-map}
+use Rattle.plan_model.specs.declared.cases.Want.{Want}
 use Rattle.plan_model.specs.declared.cases.Case.{Case}
 use Rattle.plan_model.specs.declared.cases.Assignment.{Assignment}
 use Rattle.plan_model.specs.declared.cases.Grouping.TheVariants.{Class}
@@ -26,7 +27,7 @@ use Rattle.plan_document.specs.declared.part.Planned.{Planned}
 use Rattle.plan_document.specs.declared.part.RackPart.{RackPart}
 use Rattle.plan_document.specs.Documents.{form_of, may_have_rack}
 use Rattle.plan_document.specs.Writable.{CanBeWritten, HasForm}
-use Rattle.plan_checker.specs.Accepted.{IsAccepted, IsRightRack, gap_of}
+use Rattle.plan_checker.specs.Accepted.{IsAccepted, IsRightRack, case_protections, gap_of}
 use Rattle.plan_checker.specs.Reasons.{chosen_after}
 use Rattle.plan_checker.specs.Shape.{GoesWith, HasPlan, HasShape}
 use Rattle.plan_checker.proofs.Accepting.{accepted-no_reason}
@@ -52,6 +53,11 @@ chosen_few case region most =
     let few = length-take most (ranking case region) in
     let rs = take most (ranking case region) in
     prefix_few (rack_program_fits case region) rs (length rs) most (omega (arith, few))
+
+-- ---- the protections
+
+same_count : (case : Case) → length (case_protections case) ≡ length case.wants
+same_count case = length-map case.wants (λ (w : Want). w.protection)
 
 -- ---- the region part alone
 
@@ -118,12 +124,13 @@ assembled case gap nodes racks document stated shape accepted few points no_wors
 
 module _ (case : Case) (gap nodes racks : ℕ) (small : gap ≤ 1000000000000) (some : 1 ≤ nodes) (few : nodes ≤ 20000) (most : racks ≤ 64) where
   alone : (answer : Answer) (part : Part) → RegionSolved case gap nodes answer part → ((answer ≡ answers.Infeasible → ⊥) → [] ≡ chosen_after case racks gap part.plan)
-      → IsSolution case gap nodes racks (record { answer = answer; grouping = Class; gap = gap; nodes = nodes; racks = racks; region = part; rack = None })
+      → IsSolution case gap nodes racks (record { answer = answer; grouping = Class; gap = gap; nodes = nodes; racks = racks; region = part; rack = None; protection = case_protections case })
   alone answer part solved chosen =
       assembled case gap nodes racks _
       (record { gap = refl; nodes = refl; racks = refl; grouping = refl })
-      (record { region = solved.range; rack = tt; members = solved.members })
+      (record { protections = same_count case; region = solved.range; rack = tt; members = solved.members })
       (record {
+        protections = refl;
         region = solved.right;
         rack = no_rack_after case part.plan;
         chosen = chosen;
@@ -146,6 +153,7 @@ module _ (case : Case) (gap nodes racks : ℕ) (small : gap ≤ 1000000000000) (
         nodes_least = some;
         nodes_most = few;
         racks_most = most;
+        protections = same_count case ∙ sym each;
         region = part_writable case servers reservations all each (form_of answer (is_some part.plan)) part (members_form answer part.plan part.lower solved.members solved.range.bound) solved.range
             (solved_nodes case (region_setting case) Class (region_allowed case) (region_cost case) gap nodes (first_plan_of case) part answer solved few);
         rack = tt;
@@ -182,7 +190,7 @@ module _ (case : Case) (gap nodes racks : ℕ) (small : gap ≤ 1000000000000) (
     are = subst (λ (rs : List ℕ). AreChosen case rs) (sym follows.chosen) (chosen-there case first.of racks)
 
     with_rack : IsSolution case gap nodes racks
-        (record { answer = last; grouping = Class; gap = gap; nodes = nodes; racks = racks; region = record { plan = Some first; lower = lower; tree = tree }; rack = Some rack })
+        (record { answer = last; grouping = Class; gap = gap; nodes = nodes; racks = racks; region = record { plan = Some first; lower = lower; tree = tree }; rack = Some rack; protection = case_protections case })
     with_rack =
         let part : Part = record { plan = Some first; lower = lower; tree = tree } in
         let setting = rack_setting case first.of rack.chosen in
@@ -191,8 +199,9 @@ module _ (case : Case) (gap nodes racks : ℕ) (small : gap ≤ 1000000000000) (
         let right : rack.chosen ≡ chosen_after case racks gap (Some first) = follows.chosen ∙ sym (ap (λ b. cond b (chosen_of case first.of racks) []) (nat_le-from first.gap gap close)) in
         assembled case gap nodes racks _
         (record { gap = refl; nodes = refl; racks = refl; grouping = refl })
-        (record { region = solved.range; rack = record { part = follows.solved.range; has_plan = has_plan; some = follows.some; chosen = are.there }; members = members last some_plan })
+        (record { protections = same_count case; region = solved.range; rack = record { part = follows.solved.range; has_plan = has_plan; some = follows.some; chosen = are.there }; members = members last some_plan })
         (record {
+          protections = refl;
           region = solved.right;
           rack = follows.solved.right;
           chosen = λ other. right;
@@ -215,6 +224,7 @@ module _ (case : Case) (gap nodes racks : ℕ) (small : gap ≤ 1000000000000) (
           nodes_least = some;
           nodes_most = few;
           racks_most = most;
+          protections = same_count case ∙ sym each;
           region = part_writable case servers reservations all each (form_of last true) part
               (subst (λ (f : Form). HasForm f part.plan part.lower) (sym (form_is last some_plan)) (bound_with_plan part.plan part.lower tt solved.range.bound)) solved.range
               (solved_nodes case (region_setting case) Class (region_allowed case) (region_cost case) gap nodes (first_plan_of case) part answers.Plan solved few);
@@ -230,15 +240,15 @@ module _ (case : Case) (gap nodes racks : ℕ) (small : gap ≤ 1000000000000) (
 
   -- a document without a rack part has the region's answer
   back : (answer last : Answer) (part : Part) (rack : Option RackPart) → rack ≡ None → last ≡ answer
-      → IsSolution case gap nodes racks (record { answer = answer; grouping = Class; gap = gap; nodes = nodes; racks = racks; region = part; rack = None })
-      → IsSolution case gap nodes racks (record { answer = last; grouping = Class; gap = gap; nodes = nodes; racks = racks; region = part; rack = rack })
+      → IsSolution case gap nodes racks (record { answer = answer; grouping = Class; gap = gap; nodes = nodes; racks = racks; region = part; rack = None; protection = case_protections case })
+      → IsSolution case gap nodes racks (record { answer = last; grouping = Class; gap = gap; nodes = nodes; racks = racks; region = part; rack = rack; protection = case_protections case })
   back answer last part rack none same is =
-      subst (λ (o : Option RackPart). IsSolution case gap nodes racks (record { answer = last; grouping = Class; gap = gap; nodes = nodes; racks = racks; region = part; rack = o })) (sym none)
-      (subst (λ (a : Answer). IsSolution case gap nodes racks (record { answer = a; grouping = Class; gap = gap; nodes = nodes; racks = racks; region = part; rack = None })) (sym same) is)
+      subst (λ (o : Option RackPart). IsSolution case gap nodes racks (record { answer = last; grouping = Class; gap = gap; nodes = nodes; racks = racks; region = part; rack = o; protection = case_protections case })) (sym none)
+      (subst (λ (a : Answer). IsSolution case gap nodes racks (record { answer = a; grouping = Class; gap = gap; nodes = nodes; racks = racks; region = part; rack = None; protection = case_protections case })) (sym same) is)
 
   pub solution : (answer : Answer) (plan : Option Planned) (lower : Option ℕ) (tree : Tree) (last : Answer) (rack : Option RackPart) → RegionSolved case gap nodes answer (record { plan = plan; lower = lower; tree = tree })
       → Follows case gap nodes racks answer plan last rack
-      → IsSolution case gap nodes racks (record { answer = last; grouping = Class; gap = gap; nodes = nodes; racks = racks; region = record { plan = plan; lower = lower; tree = tree }; rack = rack })
+      → IsSolution case gap nodes racks (record { answer = last; grouping = Class; gap = gap; nodes = nodes; racks = racks; region = record { plan = plan; lower = lower; tree = tree }; rack = rack; protection = case_protections case })
   solution answers.Plan (Some first) lower tree last (Some rack) solved follows = with_rack first lower tree solved last rack follows
   solution answers.Plan (Some first) lower tree last None solved follows =
       let part : Part = record { plan = Some first; lower = lower; tree = tree } in

@@ -5,6 +5,7 @@ ghost use Rattle.program_rows.specs.Settings.{phase_classes, region_setting};
 ghost use Rattle.program_rows.specs.Sizes.{IsFault, size_fault_of};
 ghost use Rattle.plan_solver.specs.Solution.{IsSolution};
 
+use crate::protections::case_protections;
 use crate::racks::after_region;
 use plan_document::Document;
 use plan_model::{Case, Grouping};
@@ -17,7 +18,7 @@ use std::alloc::Global;
 ///
 /// The region is planned first. Where that reaches the wanted gap, the reservations with the greatest rack excess are chosen,
 /// and where there are any, their racks are planned from the region's assignment. The answer is that of the last part. Servers
-/// are grouped in classes.
+/// are grouped in classes. The document states the protections of the case.
 ///
 /// The checker accepts the document, and over any names of the servers and reservations, what is written of it is read again.
 /// It shows points in its last part alone, and only where that part's budget was spent. Then each leaf of its tree that is not
@@ -42,6 +43,7 @@ pub fn solve(
 {
     let (answer, part) = region(alloc, case, Grouping::Class, gap, nodes)?;
     let (last, rack) = after_region(alloc, case, answer, &part, gap, nodes, racks)?;
+    let protection = case_protections(alloc, case)?;
     Ok(Document {
         answer: last,
         grouping: Grouping::Class,
@@ -50,5 +52,6 @@ pub fn solve(
         racks,
         region: part,
         rack,
+        protection,
     })
 }

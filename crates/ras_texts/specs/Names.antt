@@ -13,5 +13,8 @@ server_name region s = name_at (map (λ s. s.name) region.servers) s
 abbrev pub board_name : Region → ℕ → List ℕ
 board_name region board = name_at region.boards board
 
+abbrev pub center_name : Region → ℕ → List ℕ
+center_name region center = name_at region.centers center
+
 abbrev pub reservation_name : Requests → ℕ → List ℕ
 reservation_name requests r = name_at (map (λ r. r.name) requests.list) r

@@ -3,6 +3,8 @@ use Rattle.std.specs.Prelude.{ℕ, List, [], ◌++◌, codes, decimal, Option, S
 use Rattle.std.specs.Option.{unwrap_or}
 use Rattle.ras_inventory.specs.declared.region.Region.{Region}
 use Rattle.ras_requests.specs.declared.all.Requests.{Requests}
+use Rattle.plan_model.specs.declared.losses.Lost.{Lost}
+use Rattle.plan_model.specs.declared.losses.Lost.TheVariants as lost
 use Rattle.bound_certificate.specs.declared.tree.TreeWhy.{TreeWhy}
 use Rattle.bound_certificate.specs.declared.tree.TreeWhy.TheVariants as why
 use Rattle.plan_document.specs.declared.document.Answer.{Answer}
@@ -17,7 +19,7 @@ use Rattle.plan_checker.specs.declared.verdict.Reason.{Reason}
 use Rattle.plan_checker.specs.declared.verdict.Reason.TheVariants as reason
 use Rattle.plan_checker.specs.declared.verdict.Verdict.{Verdict}
 use Rattle.plan_checker.specs.declared.verdict.Verdict.TheVariants as verdict
-use Rattle.ras_texts.specs.Names.{server_name, board_name, reservation_name}
+use Rattle.ras_texts.specs.Names.{server_name, board_name, center_name, reservation_name}
 
 abbrev pub phase_text : PhaseName → List ℕ
 phase_text phase.Region = codes "region"
@@ -37,15 +39,17 @@ abbrev pub found_text : Option ℕ → List ℕ
 found_text None = codes "none"
 found_text (Some n) = decimal n
 
--- the loss after which a need is not kept: none, where the total is too small
-abbrev pub loss_text : Region → Option ℕ → List ℕ
-loss_text region None = codes "total"
-loss_text region (Some board) = board_name region board
+-- the loss after which a need is not kept: nothing is lost where the total is too small
+abbrev pub loss_text : Region → Lost → List ℕ
+loss_text region lost.Total = codes "total"
+loss_text region (lost.Board board) = board_name region board
+loss_text region (lost.Center center) = center_name region center
 
 abbrev pub reason_text : Region → Requests → Reason → List ℕ
+reason_text region requests (reason.Protection r) = codes "protection " ++ reservation_name requests r
 reason_text region requests (reason.Serves p server) = codes "serves " ++ (phase_text p ++ (codes " " ++ server_name region server))
-reason_text region requests (reason.Need p r board) =
-    codes "need " ++ (phase_text p ++ (codes " " ++ (reservation_name requests r ++ (codes " " ++ loss_text region board))))
+reason_text region requests (reason.Need p r loss) =
+    codes "need " ++ (phase_text p ++ (codes " " ++ (reservation_name requests r ++ (codes " " ++ loss_text region loss))))
 reason_text region requests (reason.Value p stated found) =
     codes "value " ++ (phase_text p ++ (codes " stated " ++ (decimal stated ++ (codes " found " ++ decimal found))))
 reason_text region requests (reason.Size p) = codes "size " ++ phase_text p

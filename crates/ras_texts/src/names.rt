@@ -1,6 +1,6 @@
 //! Names by number, as texts.
 ghost use Rattle.std.specs.Prelude.{◌≡◌};
-ghost use Rattle.ras_texts.specs.Names.{board_name, reservation_name, server_name};
+ghost use Rattle.ras_texts.specs.Names.{board_name, center_name, reservation_name, server_name};
 
 use ras_inventory::Region;
 use ras_requests::Requests;
@@ -20,6 +20,16 @@ pub(crate) fn board_name(region: &Region, board: u32) -> &str
     ensures { result.now ≡ board_name region.now board }
 {
     match region.boards.name(board) {
+        Some(name) => name.text(),
+        None => "",
+    }
+}
+
+/// The name of a datacenter, or no text where the region has no such datacenter.
+pub(crate) fn center_name(region: &Region, center: u32) -> &str
+    ensures { result.now ≡ center_name region.now center }
+{
+    match region.centers.name(center) {
         Some(name) => name.text(),
         None => "",
     }

@@ -2,9 +2,10 @@
 ghost use Rattle.std.specs.Prelude.{◌≡◌, ◌++◌, IfOk, codes, decimal, string_bytes};
 ghost use Rattle.ras_texts.specs.Verdicts.{found_text, loss_text, phase_text, reason_text, rule_text};
 
-use crate::names::{board_name, reservation_name, server_name};
+use crate::names::{board_name, center_name, reservation_name, server_name};
 use bound_certificate::TreeWhy;
 use plan_checker::{PhaseName, Reason};
+use plan_model::Lost;
 use ras_inventory::Region;
 use ras_requests::Requests;
 use std::alloc::{AllocError, Global};
@@ -34,13 +35,21 @@ fn rule_text(why: TreeWhy) -> &'static str
 }
 
 // The loss after which a need is not kept.
-fn loss_text(region: &Region, board: Option<u32>) -> &str
-    ensures { result.now ≡ loss_text region.now board }
+fn loss_text(region: &Region, lost: Lost) -> &str
+    ensures { result.now ≡ loss_text region.now lost }
 {
-    match board {
-        None => "total",
-        Some(board) => board_name(region, board),
+    match lost {
+        Lost::Total => "total",
+        Lost::Board(board) => board_name(region, board),
+        Lost::Center(center) => center_name(region, center),
     }
+}
+
+// A reservation whose protection is not that of the requests.
+fn protection_text(alloc: Global, name: &str) -> Result<String, AllocError>
+    ensures { IfOk result (λ text. string_bytes text ≡ codes "protection " ++ name.now) }
+{
+    format!(in alloc; "protection {name}")
 }
 
 // A server that does not serve.
@@ -139,10 +148,11 @@ pub(crate) fn reason_text(
     ensures { IfOk result (λ text. string_bytes text ≡ reason_text region.now requests.now reason) }
 {
     match reason {
+        Reason::Protection { r } => protection_text(alloc, reservation_name(requests, r)),
         Reason::Serves { phase, server } => serves_text(alloc, phase, server_name(region, server)),
-        Reason::Need { phase, r, board } => {
+        Reason::Need { phase, r, lost } => {
             let name = reservation_name(requests, r);
-            need_text(alloc, phase, name, loss_text(region, board))
+            need_text(alloc, phase, name, loss_text(region, lost))
         }
         Reason::Value {
             phase,

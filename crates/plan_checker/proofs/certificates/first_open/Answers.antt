@@ -1,4 +1,4 @@
-use Rattle.std.proofs.Common.{◌≡◌, ◌<◌, ap, arith, length, true, false, get_or, ◌∙◌, sym, None, Some}
+use Rattle.std.proofs.Common.{◌≡◌, ap, arith, length, true, get_or, ◌∙◌, sym, None}
 use Rattle.std.specs.Prelude.{not}
 use Rattle.bound_certificate.specs.declared.tree.Node.{Node}
 use Rattle.bound_certificate.specs.declared.tree.Node.TheVariants.{Split}

@@ -1,8 +1,7 @@
-use Rattle.std.proofs.Common.{sym, ◌∙◌, true}
 use Rattle.std.specs.Option.{is_none}
-use Rattle.program_rows.specs.Settings.{region_setting, rack_setting}
+use Rattle.program_rows.specs.Settings.{region_setting}
 use Rattle.plan_checker.specs.declared.verdict.PhaseName.TheVariants as phase
-use Rattle.plan_checker.specs.Reasons.{region_plan_reason, rack_plan_reason}
+use Rattle.plan_checker.specs.Reasons.{region_plan_reason}
 use Rattle.plan_checker.proofs.Steps.{or_none}
 use Rattle.plan_checker.proofs.Promise.{chosen_are}
 use Rattle.plan_checker.proofs.Parts.{sound_tree}

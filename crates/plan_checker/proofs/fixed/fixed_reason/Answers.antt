@@ -1,9 +1,8 @@
-use Rattle.std.proofs.Common.{◌≡◌, ◌<◌, ap, arith, length, true, false, get_or, ◌∙◌, below_more, sym, None, Some, min, zip, Bool, ℕ, Option}
+use Rattle.std.proofs.Common.{◌≡◌, ◌<◌, ap, arith, length, true, false, ◌∙◌, below_more, sym, None, zip, ℕ, Option}
 use Rattle.std.specs.Prelude.{not, option_map, slice_index_or}
 use Rattle.plan_model.specs.Rack.{keeps_to_chosen}
 use Rattle.plan_model.specs.Units.{servers_with_places, no_place, server_with}
 use Rattle.plan_model.proofs.NumberLemmas.{position_at, position_none}
-use Rattle.plan_checker.specs.declared.verdict.Reason.{Reason}
 use Rattle.plan_checker.specs.declared.verdict.Reason.TheVariants as reason
 use Rattle.plan_checker.proofs.Loops.{kept-at, kept-length}
 use Rattle.plan_checker.proofs.fixed.fixed_reason.Goals as goal

@@ -1,5 +1,5 @@
-use Rattle.std.proofs.Common.{arith, sym, ◌∙◌, Some, None, ◌<◌, length, ap, ◌≡◌, min}
-use Rattle.plan_checker.proofs.Loops.{end-other, same-step, other-step}
+use Rattle.std.proofs.Common.{arith, sym, ◌∙◌, Some, length, ap, ◌≡◌, min}
+use Rattle.plan_checker.proofs.Loops.{end-other}
 use Rattle.plan_checker.proofs.lists.first_difference.Goals as goal
 
 pub returns : goal.returns
