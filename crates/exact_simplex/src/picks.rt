@@ -1,13 +1,15 @@
 //! The choice of a pivot's column.
 ghost use Rattle.std.specs.Prelude.{◌≡◌, ℕ, ◌<◌, ◌≤◌, ◌<ℤ◌, ◌⊎◌, suc, pos, length, IfNone, IfSome};
-ghost use Rattle.exact_simplex.specs.Cells.{row_of};
+ghost use Rattle.exact_simplex.specs.Cells.{cell_of, row_of};
 ghost use Rattle.exact_simplex.specs.Choices.{ChoiceGives, ComparisonGives, FirstCandidate, IsCandidate, IsHeld, IsOrderOf, IsSetting, NextGives, ShowsPair};
+ghost use Rattle.exact_simplex.specs.Kept.{IsRising, value_of};
 ghost use Rattle.exact_simplex.specs.Pivots.{QuotientFits};
 ghost use Rattle.exact_simplex.specs.Tableaus.{Scaled};
 
+use crate::merge::taken_at;
 use crate::numbers::{is_above_none, is_none};
 use crate::rows::cell_at;
-use crate::tableau_row::TableauRow;
+use crate::tableau_row::{Kept, TableauRow};
 use exact_fraction::Fraction;
 use std::cmp::Ordering;
 
@@ -57,16 +59,32 @@ fn comes_before(cells: &[TableauRow], place: usize, held: usize, other: usize) -
     Some(false)
 }
 
+/// The cells that a row keeps from a column on.
+fn kept_from(kept: &[Kept], column: u32) -> &[Kept]
+    requires { IsRising 0 kept.now }
+    ensures rising { IsRising column result.now }
+    ensures values { (c : ℕ) → column ≤ c → value_of result.now c ≡ value_of kept.now c }
+{
+    let mut rest = kept;
+    for place in 0..column {
+        rest = taken_at(rest, place).1;
+    }
+    rest
+}
+
 /// The first candidate of a row.
 pub fn first_candidate(cells: &[TableauRow], place: usize, units: u32) -> Option<u32>
     requires place { place < length cells.now }
     requires size { length (row_of cells.now place) ≡ suc units }
     ensures { FirstCandidate result cells.now place units }
 {
+    let mut rest = kept_from(cells[place].kept(), 1);
     for k in 0..units {
-        if is_above_none(cell_at(cells, place, k as usize + 1)) {
+        let (cell, later) = taken_at(rest, k + 1);
+        if is_above_none(cell) {
             return Some(k);
         }
+        rest = later;
     }
     None
 }
@@ -89,8 +107,15 @@ fn compared(cells: &[TableauRow], place: usize, held: u32, other: u32) -> Option
     if before { Some(other) } else { Some(held) }
 }
 
-/// The unit that is held once one more was seen.
-fn next_held(cells: &[TableauRow], place: usize, held: u32, other: u32) -> Option<u32>
+/// The unit that is held once one more was seen, whose cell in the row is this one.
+fn next_held(
+    cells: &[TableauRow],
+    place: usize,
+    held: u32,
+    other: u32,
+    cell: Fraction,
+) -> Option<u32>
+    requires cell { cell ≡ cell_of (row_of cells.now place) (suc other) }
     requires place { place < length cells.now }
     requires held { (i : ℕ) → i < length cells.now → suc held < length (row_of cells.now i) }
     requires other { (i : ℕ) → i < length cells.now → suc other < length (row_of cells.now i) }
@@ -99,7 +124,7 @@ fn next_held(cells: &[TableauRow], place: usize, held: u32, other: u32) -> Optio
     ensures candidate { IfSome result (λ next. IsCandidate cells.now place (suc next)) }
     ensures gives { (n : ℕ) (t : Scaled) → IsSetting n cells.now t → other < n → IsHeld cells.now t place other held → NextGives result n cells.now t place other }
 {
-    if is_above_none(cell_at(cells, place, other as usize + 1)) {
+    if is_above_none(cell) {
         return compared(cells, place, held, other);
     }
     Some(held)
@@ -114,11 +139,15 @@ pub fn choose(cells: &[TableauRow], place: usize, first: u32, units: u32) -> Opt
     ensures gives { (t : Scaled) → IsSetting units cells.now t → ChoiceGives result units cells.now t place }
 {
     let mut held = first;
+    let seen = kept_from(cells[place].kept(), first + 1);
+    let mut rest = taken_at(seen, first + 1).1;
     for other in first + 1..units {
-        let Some(next) = next_held(cells, place, held, other) else {
+        let (cell, later) = taken_at(rest, other + 1);
+        let Some(next) = next_held(cells, place, held, other, cell) else {
             return None;
         };
         held = next;
+        rest = later;
     }
     Some(held)
 }
