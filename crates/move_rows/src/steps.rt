@@ -5,15 +5,14 @@ use memory_runs::{FOUR, THREE_AND_ONE, TWO, requests};
 use online_mover::Event;
 use plan_model::Assignment;
 use ras_table::List;
-use std::alloc::Global;
+use std::alloc::{AllocError, Global};
 use std::test::Fail;
 
 // A region, what is asked for of it, who holds its servers, and where each is to go.
 #[derive(Clone, Copy)]
 struct Setting<'a> {
     inventory: &'a str,
-    take: u32,
-    reservations: &'a str,
+    requests: &'a str,
     bindings: &'a str,
     target: &'a [Option<u32>],
 }
@@ -28,13 +27,7 @@ fn told(
     if setting.target.len() > 100 || at_once == 0 || at_once > 64 {
         return Err(Fail::from("few servers"));
     }
-    let requests = requests(alloc, setting.take, setting.reservations)?;
-    let case = case_of(
-        alloc,
-        setting.inventory,
-        requests.as_str(),
-        setting.bindings,
-    )?;
+    let case = case_of(alloc, setting.inventory, setting.requests, setting.bindings)?;
     let target = Assignment {
         of: List::from_vec(Vec::from_slice(alloc, setting.target)?),
     };
@@ -42,12 +35,25 @@ fn told(
     lines(alloc, &case, mover, events)
 }
 
+// Two servers on two switchboards of one datacenter, and a third in another.
+const TWO_AND_ONE: &str = concat!(
+    "server,type,rack,switchboard,datacenter\n",
+    "s1,t,k1,m1,d1\ns2,t,k2,m2,d1\ns3,t,k3,m3,d2\n",
+);
+
+// Requests of one reservation that needs one server, and this protection.
+fn protected_by(alloc: Global, protection: &str) -> Result<String, AllocError> {
+    format!(in alloc;
+        "{{\"format\":2,\"moves\":{{\"take\":1,\"idle\":5,\"busy\":50}},\"reservations\":[{{\"name\":\"a\",\"need\":1,\"protection\":\"{protection}\",\"values\":{{\"t\":1}}}}]}}"
+    )
+}
+
 #[test]
 fn holder_that_is_gone(rt: HostRuntime) -> Result<(), Fail> {
+    let requests = requests(rt.alloc(), 2, r#"{"name":"a","need":1,"values":{"t":1}}"#)?;
     let setting = Setting {
         inventory: TWO,
-        take: 2,
-        reservations: r#"{"name":"a","need":1,"values":{"t":1}}"#,
+        requests: requests.as_str(),
         bindings: "server,reservation,busy,up\ns1,old,0,1\n",
         target: &[Some(0), Some(0)],
     };
@@ -76,10 +82,10 @@ fn holder_that_is_gone(rt: HostRuntime) -> Result<(), Fail> {
 
 #[test]
 fn bind_first_drain_later(rt: HostRuntime) -> Result<(), Fail> {
+    let requests = requests(rt.alloc(), 1, r#"{"name":"a","need":10,"values":{"t":5}}"#)?;
     let setting = Setting {
         inventory: THREE_AND_ONE,
-        take: 1,
-        reservations: r#"{"name":"a","need":10,"values":{"t":5}}"#,
+        requests: requests.as_str(),
         bindings: "server,reservation,busy,up\ns1,a,0,1\ns2,a,0,1\ns3,a,0,1\n",
         target: &[None, Some(0), Some(0), Some(0)],
     };
@@ -124,10 +130,14 @@ fn bind_first_drain_later(rt: HostRuntime) -> Result<(), Fail> {
 
 #[test]
 fn swap_that_is_unsafe(rt: HostRuntime) -> Result<(), Fail> {
+    let requests = requests(
+        rt.alloc(),
+        1,
+        r#"{"name":"a","need":1,"values":{"t":1}},{"name":"b","need":1,"values":{"t":1}}"#,
+    )?;
     let setting = Setting {
         inventory: FOUR,
-        take: 1,
-        reservations: r#"{"name":"a","need":1,"values":{"t":1}},{"name":"b","need":1,"values":{"t":1}}"#,
+        requests: requests.as_str(),
         bindings: "server,reservation,busy,up\ns1,a,0,1\ns2,b,0,1\ns3,a,0,1\ns4,b,0,1\n",
         target: &[Some(1), Some(0), Some(0), Some(1)],
     };
@@ -135,5 +145,33 @@ fn swap_that_is_unsafe(rt: HostRuntime) -> Result<(), Fail> {
     let found = told(rt.alloc(), setting, 8, &events)?;
     let want = "| unsafe 0 unsafe 1 ..| ++\n| unsafe 0 unsafe 1 ..| -+\n";
     assert!(rt; found.as_str() == want, "{found}");
+    Ok(())
+}
+
+#[test]
+fn losses_that_a_protection_names(rt: HostRuntime) -> Result<(), Fail> {
+    let cases = [
+        ("none", "drain 0 bind 2 0 | ...| +\n| ...| +\n"),
+        (
+            "switchboard",
+            "bind 2 0 | unsafe 0 ..| +\ndrain 0 | ...| +\n",
+        ),
+        (
+            "datacenter",
+            "bind 2 0 | unsafe 0 ..| -\ndrain 0 | ...| +\n",
+        ),
+    ];
+    let events = [Event::Tick, Event::Joined(2)];
+    for (protection, want) in cases {
+        let requests = protected_by(rt.alloc(), protection)?;
+        let setting = Setting {
+            inventory: TWO_AND_ONE,
+            requests: requests.as_str(),
+            bindings: "server,reservation,busy,up\ns1,a,0,1\ns2,a,0,1\n",
+            target: &[None, Some(0), Some(0)],
+        };
+        let found = told(rt.alloc(), setting, 8, &events)?;
+        assert!(rt; found.as_str() == want, "{protection}: {found}");
+    }
     Ok(())
 }

@@ -314,3 +314,31 @@ fn events_without_a_head(rt: HostRuntime) -> Result<(), Fail> {
     );
     Ok(())
 }
+
+// Requests of a reservation that no loss has to leave what it needs, and a document that gives it the server that it lacks.
+const UNPROTECTED: &str = concat!(
+    r#"{"format":2,"moves":{"take":1,"idle":5,"busy":50},"#,
+    r#""reservations":[{"name":"a","need":1,"protection":"none","values":{"t":1}}]}"#,
+);
+
+const UNPROTECTED_PLAN: &str = concat!(
+    r#"{"answer":"plan","format":2,"gap":6,"grouping":"class","nodes":100,"protection":{"a":"none"},"racks":4,"#,
+    r#""region":{"assignment":{"s2":"a"},"gap":6,"lower":0,"tree":[["bound",1,[]]],"value":6}}"#,
+);
+
+#[test]
+fn one_server_in_place_of_another(rt: HostRuntime) -> Result<(), Fail> {
+    let texts = Texts {
+        inventory: TWO,
+        requests: UNPROTECTED,
+        bindings: "server,reservation,busy,up\ns1,a,0,1\n",
+        plan: UNPROTECTED_PLAN,
+    };
+    let lines = "at,event,server\n0,tick,\n1,joined,s2\n";
+    let found = told_move(rt.alloc(), texts, lines, &[])?;
+    assert!(rt;
+        found.as_str() == "0|0,bind,s2,a\n1,drain,s1,a\nend,total,2,0\n|",
+        "{found}"
+    );
+    Ok(())
+}

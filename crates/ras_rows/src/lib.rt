@@ -20,6 +20,8 @@ mod limits;
 #[cfg(test)]
 mod notes;
 #[cfg(test)]
+mod protections;
+#[cfg(test)]
 mod rack_parts;
 #[cfg(test)]
 mod racks;

@@ -73,7 +73,7 @@ fn faults_of_requests(rt: HostRuntime) -> Result<(), Fail> {
         ("[]", "3||ras: requests: place 0: shape\n"),
         (r#"TOP],"more":0}"#, "3||ras: requests: place 0: shape\n"),
         (
-            r#"{"format":2,"moves":{"take":1,"idle":5,"busy":50},"reservations":[]}"#,
+            r#"{"format":3,"moves":{"take":1,"idle":5,"busy":50},"reservations":[]}"#,
             "3||ras: requests: place 0: format\n",
         ),
         (
@@ -130,7 +130,7 @@ fn faults_of_documents(rt: HostRuntime) -> Result<(), Fail> {
         (r#""class""#, r#""servers""#, "top: shape"),
         (r#""nodes":100"#, r#""nodes":1.5"#, "top: shape"),
         (r#""plan""#, r#""infeasible""#, "top: shape"),
-        (r#""format":1"#, r#""format":2"#, "top: format"),
+        (r#""format":1"#, r#""format":3"#, "top: format"),
         (r#""racks":4"#, r#""racks":65"#, "top: range"),
         (r#""nodes":100"#, r#""nodes":0"#, "top: range"),
         (r#""nodes":100"#, r#""nodes":20001"#, "top: range"),
