@@ -1,0 +1,5 @@
+pub mod Members
+pub mod Stays
+pub mod KeepRule
+pub mod Joins
+pub mod Fewer

@@ -1,0 +1,4 @@
+pub mod Kept
+pub mod Cases
+pub mod Cores
+pub mod Laws
