@@ -1,4 +1,6 @@
 pub mod Kept
 pub mod Cases
 pub mod Cores
+pub mod Answers
+pub mod Steps
 pub mod Laws

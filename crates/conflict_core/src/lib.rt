@@ -1,9 +1,18 @@
 //! Sets of reservations that clash.
 #![tactic(auto)]
 
+mod answer;
 mod copies;
+mod cores;
 mod keep;
 mod laws;
+mod sets;
+mod steps;
+mod tries;
 
+pub use answer::CoreAnswer;
+pub use cores::core;
 pub use keep::keep_only;
-pub use laws::{fewer_can_be_met, kept_joins, kept_stays_allowed, met_or_not};
+pub use laws::{
+    enough_is_decided, fewer_can_be_met, kept_joins, kept_stays_allowed, met_or_not,
+};

@@ -1,5 +1,5 @@
 -- What `core` answers.
-use Rattle.std.specs.Prelude.{ℕ, ◌≡◌, ◌<◌, ◌+◌, ⊤, List, length, Option, Some, None, get_or}
+use Rattle.std.specs.Prelude.{ℕ, ◌≡◌, ◌<◌, ⊤, List, length, Option, Some, None, get_or}
 use Rattle.std.specs.List.{remove, range_with_len}
 use Rattle.ras_inventory.specs.declared.region.Region.{Region}
 use Rattle.ras_inventory.specs.declared.bindings.Bindings.{Bindings}
@@ -12,12 +12,11 @@ use Rattle.program_rows.specs.Settings.{region_setting, phase_classes}
 use Rattle.program_rows.specs.Sizes.{size_fault_of}
 use Rattle.plan_document.specs.declared.document.Document.{Document}
 use Rattle.plan_document.specs.declared.document.Answer.TheVariants as answers
+use Rattle.first_plans.specs.FirstPlan.{first_plan_of}
 use Rattle.plan_checker.specs.Shape.{HasPlan}
-use Rattle.core_planner.specs.declared.found.Found.{Found}
-use Rattle.core_planner.specs.declared.found.Found.TheVariants.{Plans, Clash, Spent}
-use Rattle.core_planner.specs.declared.found.CoreAnswer.{CoreAnswer}
-use Rattle.core_planner.specs.declared.found.CoreAnswer.TheVariants.{Core, Fits, Limit}
-use Rattle.plan_solver.specs.Solution.{IsSolution}
+use Rattle.plan_checker.specs.Solution.{IsSolution}
+use Rattle.conflict_core.specs.declared.answer.CoreAnswer.{CoreAnswer}
+use Rattle.conflict_core.specs.declared.answer.CoreAnswer.TheVariants.{Core, Fits, Limit}
 use Rattle.conflict_core.specs.Kept.{AreMembers}
 use Rattle.conflict_core.specs.Cores.{IsCaseOf, IsCore}
 
@@ -26,6 +25,38 @@ pub record IsDocumentOf (region : Region) (requests : Requests) (bindings : Bind
   pub case : Case
   pub is_case : IsCaseOf region requests bindings members case
   pub solution : IsSolution case 1000000000000 nodes 0 document
+
+-- it has an assignment
+pub record IsPlanFor (region : Region) (requests : Requests) (bindings : Bindings) (members : List ℕ) (nodes : ℕ) (document : Document) : Type 0 where
+  pub is : IsDocumentOf region requests bindings members nodes document
+  pub plan : HasPlan document.region.plan
+
+-- it says that no assignment is allowed
+pub record IsRefutationOf (region : Region) (requests : Requests) (bindings : Bindings) (members : List ℕ) (nodes : ℕ) (document : Document) : Type 0 where
+  pub is : IsDocumentOf region requests bindings members nodes document
+  pub answer : document.answer ≡ answers.Infeasible
+
+-- its budget was spent before an assignment was found, and there is no first plan
+pub record IsLimitOf (region : Region) (requests : Requests) (bindings : Bindings) (members : List ℕ) (nodes : ℕ) (document : Document) : Type 0 where
+  pub is : IsDocumentOf region requests bindings members nodes document
+  pub answer : document.answer ≡ answers.Limit
+  pub no_plan : document.region.plan ≡ None
+  pub no_first : first_plan_of is.case ≡ None
+
+-- the n-th of these documents, of which there are so many, has an assignment for the set without its n-th member
+pub record ArePlans (region : Region) (requests : Requests) (bindings : Bindings) (members : List ℕ) (nodes : ℕ) (count : ℕ) (plans : List Document) : Type 0 where
+  pub many : length plans ≡ count
+  pub each : (n : ℕ) (d : Document) → n < count → IsPlanFor region requests bindings (remove members n) nodes (get_or plans n d)
+
+-- A core with the document that says that it can't be met and one for each member that is left out; or a document with an assignment for all; or a set
+-- with its document that has none.
+abbrev pub IsCoreAnswer : Region → Requests → Bindings → ℕ → CoreAnswer → Type 0
+IsCoreAnswer region requests bindings nodes (Core members refutation plans) =
+    IsCore region requests bindings members × IsRefutationOf region requests bindings members nodes refutation
+    × ArePlans region requests bindings members nodes (length members) plans
+IsCoreAnswer region requests bindings nodes (Fits plan) = IsPlanFor region requests bindings (range_with_len 0 (length requests.list)) nodes plan
+IsCoreAnswer region requests bindings nodes (Limit over document) =
+    AreMembers (length requests.list) over × IsLimitOf region requests bindings over nodes document
 
 -- the program of some set of the reservations has this size
 pub record HasSize (region : Region) (requests : Requests) (bindings : Bindings) (fault : SizeFault) : Type 0 where
@@ -40,39 +71,3 @@ abbrev pub IsFaultOf : Region → Requests → Bindings → SizeFault → Type 0
 IsFaultOf region requests bindings Memory = ⊤
 IsFaultOf region requests bindings (Columns n) = HasSize region requests bindings (Columns n)
 IsFaultOf region requests bindings (Rows n) = HasSize region requests bindings (Rows n)
-
--- a document that solves the case of a set, and has an assignment
-pub record IsPlanFor (region : Region) (requests : Requests) (bindings : Bindings) (members : List ℕ) (nodes : ℕ) (document : Document) : Type 0 where
-  pub is : IsDocumentOf region requests bindings members nodes document
-  pub plan : HasPlan document.region.plan
-
--- one that says that no assignment is allowed
-pub record IsRefutationOf (region : Region) (requests : Requests) (bindings : Bindings) (members : List ℕ) (nodes : ℕ) (document : Document) : Type 0 where
-  pub is : IsDocumentOf region requests bindings members nodes document
-  pub answer : document.answer ≡ answers.Infeasible
-
--- one whose budget was spent before an assignment was found
-pub record IsLimitOf (region : Region) (requests : Requests) (bindings : Bindings) (members : List ℕ) (nodes : ℕ) (document : Document) : Type 0 where
-  pub is : IsDocumentOf region requests bindings members nodes document
-  pub answer : document.answer ≡ answers.Limit
-  pub plan : document.region.plan ≡ None
-
--- the n-th of these documents has an assignment for the set without its n-th member
-pub record ArePlans (region : Region) (requests : Requests) (bindings : Bindings) (members : List ℕ) (nodes : ℕ) (count : ℕ) (plans : List Document) : Type 0 where
-  pub many : length plans ≡ count
-  pub each : (n : ℕ) (d : Document) → n < count → IsPlanFor region requests bindings (remove members n) nodes (get_or plans n d)
-
-abbrev pub IsFound : Region → Requests → Bindings → List ℕ → ℕ → Found → Type 0
-IsFound region requests bindings members nodes (Plans plans) = ArePlans region requests bindings members nodes (length members) plans
-IsFound region requests bindings members nodes (Clash fewer document) =
-    (AreMembers (length requests.list) fewer) × (length fewer + 1 ≡ length members) × IsRefutationOf region requests bindings fewer nodes document
-IsFound region requests bindings members nodes (Spent fewer document) =
-    (AreMembers (length requests.list) fewer) × IsLimitOf region requests bindings fewer nodes document
-
-abbrev pub IsCoreAnswer : Region → Requests → Bindings → ℕ → CoreAnswer → Type 0
-IsCoreAnswer region requests bindings nodes (Core members refutation plans) =
-    IsCore region requests bindings members × IsRefutationOf region requests bindings members nodes refutation
-    × ArePlans region requests bindings members nodes (length members) plans
-IsCoreAnswer region requests bindings nodes (Fits plan) = IsPlanFor region requests bindings (range_with_len 0 (length requests.list)) nodes plan
-IsCoreAnswer region requests bindings nodes (Limit over document) =
-    (AreMembers (length requests.list) over) × IsLimitOf region requests bindings over nodes document

@@ -1,5 +1,0 @@
-use Rattle.core_planner.specs.Answers.{ArePlans}
-use Rattle.core_planner.proofs.core.try_each.Given as goal
-
-abbrev pub invariant-loop-n : goal.invariant-loop-n
-invariant-loop-n g l = ArePlans l.region l.requests l.bindings l.members l.nodes l.n l.plans.items
