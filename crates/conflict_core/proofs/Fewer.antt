@@ -5,54 +5,30 @@ use Rattle.std.specs.List.{list_all, range_with_len, remove}
 use Rattle.std.proofs.lemmas.Bool.Decides.{nat_tests}
 use Rattle.std.proofs.lemmas.List.{length-map, ext_get_or}
 use Rattle.std.proofs.lemmas.List.FromFn.{length-map-range_with_len, get_or-map-range_with_len}
-use Rattle.std.proofs.lemmas.List.Elements.{All-get_or, All-from_get_or}
+use Rattle.std.proofs.lemmas.List.Elements.{All-from_get_or}
 use Rattle.ras_inventory.specs.declared.region.Region.{Region}
 use Rattle.ras_inventory.specs.declared.bindings.Bindings.{Bindings}
 use Rattle.ras_requests.specs.declared.requests.Reservation.{Reservation}
 use Rattle.ras_requests.specs.declared.all.Requests.{Requests}
 use Rattle.plan_model.specs.declared.cases.Case.{Case}
 use Rattle.plan_model.specs.Joined.{IsJoined, joined_place, joined_want}
-use Rattle.plan_model.proofs.CaseFacts.{and-left, and-right}
 use Rattle.plan_model.proofs.JoinRule.{joined-rule}
 use Rattle.plan_model.proofs.JoinedOnce.{joined-once}
-use Rattle.conflict_core.specs.Kept.{rises, AreMembers, IsKeptTo, kept_list, reservation_of, no_reservation}
+use Rattle.conflict_core.specs.Kept.{rises, AreMembers, IsKeptTo, all_members, kept_list, reservation_of, no_reservation}
 use Rattle.conflict_core.specs.Cases.{kept_assignment}
-use Rattle.conflict_core.specs.Cores.{IsCaseOf}
+use Rattle.conflict_core.specs.Cores.{IsCaseOf, CanBeMet}
 use Rattle.conflict_core.specs.Laws.{FewerCanBeMet, MetOrNot}
 use Rattle.plan_model.specs.Allowed.{region_allowed}
 use Rattle.conflict_core.proofs.KeepRule.{kept-rule}
 use Rattle.conflict_core.proofs.Joins.{kept-joins}
 use Rattle.conflict_core.proofs.Stays.{kept-stays, both}
+use Rattle.conflict_core.proofs.Cuts.{members-cut}
 
 -- ---- lists without one element
 
-all-but : {X : Type 0} (test : X → Bool) (xs : List X) (n : ℕ) → list_all test xs ≡ true → list_all test (remove xs n) ≡ true
-all-but test [] zero all = refl
-all-but test [] (suc n) all = refl
-all-but test (x ∷ xs) zero all = and-right _ _ all
-all-but test (x ∷ xs) (suc n) all = both (test x) (list_all test (remove xs n)) (and-left _ _ all) (all-but test xs n (and-right _ _ all))
-
-rises-but : (members : List ℕ) (n : ℕ) → rises members ≡ true → rises (remove members n) ≡ true
-rises-but [] zero h = refl
-rises-but [] (suc n) h = refl
-rises-but (r ∷ rs) zero h = and-right _ _ h
-rises-but (r ∷ rs) (suc n) h = both (list_all (nat_lt r) (remove rs n)) (rises (remove rs n)) (all-but (nat_lt r) rs n (and-left _ _ h)) (rises-but rs n (and-right _ _ h))
-
-below-but : (members : List ℕ) (n count : ℕ) → ((i : ℕ) → i < length members → get_or members i 0 < count)
-    → (i : ℕ) → i < length (remove members n) → get_or (remove members n) i 0 < count
-below-but [] zero count each i within = absurd (omega arith)
-below-but [] (suc n) count each i within = absurd (omega arith)
-below-but (r ∷ rs) zero count each i within = each (suc i) (omega arith)
-below-but (r ∷ rs) (suc n) count each zero within = each 0 (omega arith)
-below-but (r ∷ rs) (suc n) count each (suc i) within = below-but rs n count (λ k inside. each (suc k) (omega arith)) i (omega arith)
-
 -- a set without one member is a set
 pub members-but : (members : List ℕ) (n count : ℕ) → AreMembers count members → AreMembers count (remove members n)
-members-but members n count those = record {
-  rising = rises-but members n those.rising;
-  there = All-from_get_or (λ r. r < count) (remove members n) 0
-      (below-but members n count (λ i within. All-get_or (λ r. r < count) members i 0 within those.there));
-}
+members-but members n count those = members-cut members n (suc n) count (omega arith) those
 
 map-but : {X Y : Type 0} (f : X → Y) (xs : List X) (n : ℕ) → map f (remove xs n) ≡ remove (map f xs) n
 map-but f [] zero = refl
@@ -118,24 +94,45 @@ kept-twice requests kept members n is =
 members-for : (members : List ℕ) (m n : ℕ) → m ≡ n → AreMembers m members → AreMembers n members
 members-for members m n e those = subst (λ k. AreMembers k members) e those
 
+-- the case of a set
+pub case-of : (region : Region) (requests : Requests) (bindings : Bindings) (members : List ℕ) (those : AreMembers (length requests.list) members)
+    → IsCaseOf region requests bindings members (joined-case region (kept-requests requests members those) bindings)
+case-of region requests bindings members those =
+    record { kept = kept-requests requests members those; is_kept = record { moves = refl; list = refl }; joined = is-joined region (kept-requests requests members those) bindings }
+
+-- A set can be met where one can of which it keeps some members, here by their numbers among that set's.
+kept-met : (region : Region) (requests : Requests) (bindings : Bindings) (members fewer numbers : List ℕ) (met : CanBeMet region requests bindings members)
+    → AreMembers (length requests.list) fewer → AreMembers (length met.is_case.kept.list) numbers → kept_list requests.list fewer ≡ kept_list met.is_case.kept.list numbers
+    → CanBeMet region requests bindings fewer
+kept-met region requests bindings members fewer numbers met left are same =
+    let kept : Requests = met.is_case.kept in
+    let is : IsKeptTo kept numbers (kept-requests requests fewer left) = record { moves = sym met.is_case.is_kept.moves; list = same } in
+    let joined : IsJoined region (kept-requests requests fewer left) bindings (joined-case region (kept-requests requests fewer left) bindings) =
+    is-joined region (kept-requests requests fewer left) bindings in
+    let many : length kept.list ≡ length met.case.wants = sym (ap length met.is_case.joined.wants ∙ length-map kept.list (joined_want region.types region.centers)) in
+    record {
+      case = joined-case region (kept-requests requests fewer left) bindings;
+      is_case = case-of region requests bindings fewer left;
+      a = kept_assignment numbers met.a;
+      allowed = kept-stays numbers met.case (joined-case region (kept-requests requests fewer left) bindings) met.a (members-for numbers (length kept.list) (length met.case.wants) many are)
+          (kept-joins region kept (kept-requests requests fewer left) bindings numbers met.case (joined-case region (kept-requests requests fewer left) bindings) are is met.is_case.joined joined)
+          met.allowed;
+    }
+
 pub fewer-met : FewerCanBeMet
 fewer-met region requests bindings members n those within met =
     let kept : Requests = met.is_case.kept in
-    let left : AreMembers (length requests.list) (remove members n) = members-but members n (length requests.list) those in
-    let fewer : Requests = kept-requests requests (remove members n) left in
-    let numbers : List ℕ = remove (range_with_len 0 (length kept.list)) n in
-    let are : AreMembers (length kept.list) numbers = members-but (range_with_len 0 (length kept.list)) n (length kept.list) (all-members (length kept.list)) in
-    let is : IsKeptTo kept numbers fewer = record { moves = sym met.is_case.is_kept.moves; list = kept-twice requests kept members n met.is_case.is_kept } in
-    let joined : IsJoined region fewer bindings (joined-case region fewer bindings) = is-joined region fewer bindings in
-    let many : length kept.list ≡ length met.case.wants = sym (ap length met.is_case.joined.wants ∙ length-map kept.list (joined_want region.types region.centers)) in
-    record {
-      case = joined-case region fewer bindings;
-      is_case = record { kept = fewer; is_kept = record { moves = refl; list = refl }; joined = joined };
-      a = kept_assignment numbers met.a;
-      allowed = kept-stays numbers met.case (joined-case region fewer bindings) met.a (members-for numbers (length kept.list) (length met.case.wants) many are)
-          (kept-joins region kept fewer bindings numbers met.case (joined-case region fewer bindings) are is met.is_case.joined joined)
-          met.allowed;
-    }
+    kept-met region requests bindings members (remove members n) (remove (range_with_len 0 (length kept.list)) n) met (members-but members n (length requests.list) those)
+    (members-but (range_with_len 0 (length kept.list)) n (length kept.list) (all-members (length kept.list))) (kept-twice requests kept members n met.is_case.is_kept)
+
+-- a set can be met where all can
+pub some-met : (region : Region) (requests : Requests) (bindings : Bindings) (members : List ℕ) → AreMembers (length requests.list) members
+    → CanBeMet region requests bindings (all_members requests) → CanBeMet region requests bindings members
+some-met region requests bindings members those met =
+    let kept : Requests = met.is_case.kept in
+    let list : kept.list ≡ requests.list = met.is_case.is_kept.list ∙ kept-all requests.list in
+    kept-met region requests bindings (all_members requests) members members met those (members-for members (length requests.list) (length kept.list) (sym (ap length list)) those)
+    (ap (λ xs. kept_list xs members) (sym list))
 
 -- ---- a set has one case
 

@@ -38,7 +38,7 @@ few-members members n those = by (length members) refl
         let inside : k < length members = omega (arith, e) in
         omega (arith, at-least members k those.rising inside, All-get_or (λ r. r < n) members k 0 inside those.there)
 
-all-at : (test : ℕ → Bool) (members : List ℕ) → ((i : ℕ) → i < length members → test (get_or members i 0) ≡ true) → list_all test members ≡ true
+pub all-at : (test : ℕ → Bool) (members : List ℕ) → ((i : ℕ) → i < length members → test (get_or members i 0) ≡ true) → list_all test members ≡ true
 all-at test [] each = refl
 all-at test (r ∷ rs) each = both (test r) (list_all test rs) (each 0 (omega arith)) (all-at test rs (λ i within. each (suc i) (omega arith)))
 

@@ -1,6 +1,6 @@
 -- What `core` answers.
 use Rattle.std.specs.Prelude.{ℕ, ◌≡◌, ◌<◌, ⊤, List, length, Option, Some, None, get_or}
-use Rattle.std.specs.List.{remove, range_with_len}
+use Rattle.std.specs.List.{remove}
 use Rattle.ras_inventory.specs.declared.region.Region.{Region}
 use Rattle.ras_inventory.specs.declared.bindings.Bindings.{Bindings}
 use Rattle.ras_requests.specs.declared.all.Requests.{Requests}
@@ -17,7 +17,7 @@ use Rattle.plan_checker.specs.Shape.{HasPlan}
 use Rattle.plan_checker.specs.Solution.{IsSolution}
 use Rattle.conflict_core.specs.declared.answer.CoreAnswer.{CoreAnswer}
 use Rattle.conflict_core.specs.declared.answer.CoreAnswer.TheVariants.{Core, Fits, Limit}
-use Rattle.conflict_core.specs.Kept.{AreMembers}
+use Rattle.conflict_core.specs.Kept.{AreMembers, all_members}
 use Rattle.conflict_core.specs.Cores.{IsCaseOf, IsCore}
 
 -- the document solves the case of a set, with the greatest wanted gap and no racks
@@ -54,7 +54,7 @@ abbrev pub IsCoreAnswer : Region → Requests → Bindings → ℕ → CoreAnswe
 IsCoreAnswer region requests bindings nodes (Core members refutation plans) =
     IsCore region requests bindings members × IsRefutationOf region requests bindings members nodes refutation
     × ArePlans region requests bindings members nodes (length members) plans
-IsCoreAnswer region requests bindings nodes (Fits plan) = IsPlanFor region requests bindings (range_with_len 0 (length requests.list)) nodes plan
+IsCoreAnswer region requests bindings nodes (Fits plan) = IsPlanFor region requests bindings (all_members requests) nodes plan
 IsCoreAnswer region requests bindings nodes (Limit over document) =
     AreMembers (length requests.list) over × IsLimitOf region requests bindings over nodes document
 

@@ -1,6 +1,6 @@
 -- Requests from which only some reservations are kept.
-use Rattle.std.specs.Prelude.{ℕ, ◌≡◌, ◌<◌, Bool, true, ◌&&◌, nat_lt, List, [], ◌∷◌, map, slice_index_or, All}
-use Rattle.std.specs.List.{list_all}
+use Rattle.std.specs.Prelude.{ℕ, ◌≡◌, ◌<◌, Bool, true, ◌&&◌, nat_lt, List, [], ◌∷◌, length, map, slice_index_or, All}
+use Rattle.std.specs.List.{list_all, range_with_len}
 use Rattle.ras_requests.specs.declared.requests.Protection.TheVariants.{Total}
 use Rattle.ras_requests.specs.declared.requests.Reservation.{Reservation}
 use Rattle.ras_requests.specs.declared.all.Requests.{Requests}
@@ -14,6 +14,10 @@ rises (r ∷ rs) = list_all (nat_lt r) rs && rises rs
 pub record AreMembers (count : ℕ) (members : List ℕ) : Type 0 where
   pub rising : rises members ≡ true
   pub there : All (λ r. r < count) members
+
+-- all reservations
+abbrev pub all_members : Requests → List ℕ
+all_members requests = range_with_len 0 (length requests.list)
 
 -- a reservation that is not there
 abbrev pub no_reservation : Reservation

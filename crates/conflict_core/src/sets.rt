@@ -1,8 +1,7 @@
 //! Sets of reservations, and the documents of their cases.
 ghost use Rattle.std.specs.Prelude.{◌≡◌, ◌≤◌, ◌++◌, IfErr, IfOk, drop, length, take};
-ghost use Rattle.std.specs.List.{range_with_len};
 ghost use Rattle.plan_model.specs.Joined.{IsJoined};
-ghost use Rattle.conflict_core.specs.Kept.{AreMembers, IsKeptTo};
+ghost use Rattle.conflict_core.specs.Kept.{AreMembers, IsKeptTo, all_members};
 ghost use Rattle.conflict_core.specs.Answers.{IsDocumentOf, IsFaultOf};
 
 use crate::keep::keep_only;
@@ -17,7 +16,7 @@ use std::alloc::{AllocError, Global};
 
 /// The numbers of all reservations.
 pub(crate) fn all_of(alloc: Global, requests: &Requests) -> Result<List<u32>, AllocError>
-    ensures { IfOk result (λ members. members ≡ range_with_len 0 (length requests.now.list)) }
+    ensures { IfOk result (λ members. members ≡ all_members requests.now) }
 {
     let mut items = Vec::new(alloc);
     for r in 0..requests.list.len() {
