@@ -28,10 +28,10 @@ use Rattle.plan_checker.specs.Accepted.{IsRightPlan}
 use Rattle.plan_checker.specs.Reasons.{is_closed}
 use Rattle.plan_checker.specs.Shape.{PlanInRange}
 use Rattle.branch_bound.specs.Finding.{IsTreeWithin}
-use Rattle.phase_search.specs.Causes.{HasCauses, HasPlanWithin}
+use Rattle.plan_checker.specs.Causes.{HasCauses, HasPlanWithin}
 use Rattle.phase_search.specs.Phases.{IsPrepared, IsPlanOf}
-use Rattle.phase_search.specs.Points.{without_point, shows_points}
-use Rattle.phase_search.specs.Solved.{IsSolved}
+use Rattle.plan_checker.specs.Points.{without_point, shows_points}
+use Rattle.plan_checker.specs.Solved.{IsSolved}
 use Rattle.phase_search.proofs.PointsHidden.{hidden-length, hidden-fault_of_tree, hidden-bound_of_tree, hidden-closed, hidden-shows}
 use Rattle.phase_search.proofs.Prepared.{program-is, columns-are, allowed-fits}
 use Rattle.phase_search.proofs.Trees.{bound-small, all-closed}

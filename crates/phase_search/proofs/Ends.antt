@@ -23,8 +23,8 @@ use Rattle.branch_bound.specs.declared.found.Found.TheVariants.{Plan, Empty, Lim
 use Rattle.branch_bound.specs.Finding.{IsFound, IsNoWorse}
 use Rattle.branch_bound.specs.Openings.{HasWithin, IsBestSince}
 use Rattle.phase_search.specs.Phases.{IsPrepared, IsPlanOf, IsFirstPoint}
-use Rattle.phase_search.specs.Points.{without_point}
-use Rattle.phase_search.specs.Solved.{IsSolved}
+use Rattle.plan_checker.specs.Points.{without_point}
+use Rattle.plan_checker.specs.Solved.{IsSolved}
 use Rattle.phase_search.proofs.Known.{known-plan, known-none}
 use Rattle.phase_search.proofs.Prepared.{bound-under, none-first, first-at_most, first-none}
 use Rattle.phase_search.proofs.Answered.{plan-solved, none-solved, wide-solved, bare-solved}

@@ -10,7 +10,7 @@ use Rattle.exact_simplex.specs.Reasons.{AreKnown}
 use Rattle.plan_document.specs.declared.part.Planned.{Planned}
 use Rattle.branch_bound.specs.declared.found.Best.{Best}
 use Rattle.branch_bound.specs.Openings.{HasWithin}
-use Rattle.phase_search.specs.Causes.{HasPlanWithin}
+use Rattle.plan_checker.specs.Causes.{HasPlanWithin}
 
 -- what is known of leaves is known of them where more is within reach
 pub known-wider : (program : Program) (narrow wide : ℕ → Type 0) → ((value : ℕ) → narrow value → wide value) → (earlier nodes : List Node)

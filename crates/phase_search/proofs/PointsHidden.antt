@@ -11,7 +11,7 @@ use Rattle.bound_certificate.specs.declared.tree.TreeWhy.{TreeWhy}
 use Rattle.bound_certificate.specs.declared.tree.TreeWhy.TheVariants as why
 use Rattle.bound_certificate.specs.Trees.{low_side, high_side, box_of, is_named, child_fits, broken_rule, fault_of, sooner_fault, first_fault, lesser_of, node_bound, least_bound, fault_of_tree, bound_of_tree}
 use Rattle.plan_checker.specs.Reasons.{is_closed}
-use Rattle.phase_search.specs.Points.{shows_points, without_point}
+use Rattle.plan_checker.specs.Points.{shows_points, without_point}
 
 abbrev hidden : List Node → List Node
 hidden nodes = map without_point nodes

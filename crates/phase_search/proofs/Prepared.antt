@@ -1,5 +1,5 @@
 -- A phase whose classes and program are made: what a first point and a bound of a tree say of its assignments.
-use Rattle.std.proofs.Common.{◌≡◌, ℕ, ◌+◌, ◌<◌, ◌≤◌, true, List, length, sym, subst, refl, arith, Some, None}
+use Rattle.std.proofs.Common.{◌≡◌, ℕ, ◌+◌, ◌<◌, ◌≤◌, true, List, length, ap, sym, subst, ◌∙◌, refl, arith, Some, None}
 use Rattle.std.specs.Prelude.{Option, IfSome, IsTrue}
 use Rattle.plan_model.specs.declared.cases.Case.{Case}
 use Rattle.plan_model.specs.declared.cases.Assignment.{Assignment}
@@ -17,14 +17,15 @@ use Rattle.bound_certificate.proofs.TreeBound.{bound_of_tree_under}
 use Rattle.program_rows.specs.declared.phases.Phase.{Phase}
 use Rattle.program_rows.specs.declared.phases.Phase.TheVariants.{Region, Rack}
 use Rattle.program_rows.specs.Settings.{Setting, setting_of, phase_classes}
-use Rattle.program_rows.specs.Phases.{phase_allowed, phase_cost}
-use Rattle.program_rows.specs.Programs.{program_columns}
+use Rattle.program_rows.specs.Phases.{phase_allowed, phase_cost, start_allowed}
+use Rattle.program_rows.specs.Programs.{program_base, program_columns, program_fits, program_lines}
+use Rattle.program_rows.specs.Sizes.{size_fault_of}
 use Rattle.program_rows.specs.Accepted.{phase_program}
 use Rattle.class_expand.specs.Lifting.{IsProgramOf, counts_of}
 use Rattle.class_expand.proofs.Phases.{rack-phase_cost}
 use Rattle.class_expand.proofs.Started.{is-phase, is-program}
 use Rattle.class_expand.proofs.WholePoint.{allowed-is_point}
-use Rattle.plan_checker.proofs.Sized.{built-is}
+use Rattle.plan_checker.proofs.Sized.{built-is, built-fits}
 use Rattle.phase_search.specs.Phases.{HasChosen, IsPrepared, IsFirstPoint}
 
 plus-none : (n : ℕ) → n ≡ n + 0
@@ -41,6 +42,20 @@ cost_in-is case (Rack from chosen) a has = rack-phase_cost case from.now chosen.
 
 pub allowed-fits : (case : Case) (setting : Setting) (a : Assignment) → phase_allowed case setting a ≡ true → IsTrue (fits case a)
 allowed-fits case setting a allowed = and-left _ _ (and-left _ _ (and-left (region_allowed case a) _ allowed))
+
+-- a phase is prepared where its classes are those of a grouping and its program is built over them
+pub prepared-by : (case : Case) (phase : Phase) (how : Grouping) (classes : List Class) (program : Program) → start_allowed case phase ≡ true → HasChosen case phase
+    → classes ≡ phase_classes case (setting_of case phase) how → program.base ≡ program_base case (setting_of case phase)
+    → program.columns ≡ program_columns case (setting_of case phase) classes → program.rows ≡ program_lines case (setting_of case phase) classes
+    → IsPrepared case phase how classes program
+prepared-by case phase how classes program start chosen grouped base columns rows =
+    record { start = start; chosen = chosen; grouped = grouped; is_program = record { base = base; columns = columns; rows = rows } }
+
+-- a program over the classes of a grouping that has not too many columns or rows
+pub fits-by : (case : Case) (phase : Phase) (how : Grouping) (classes : List Class) → classes ≡ phase_classes case (setting_of case phase) how
+    → size_fault_of case (setting_of case phase) classes ≡ None → program_fits case (setting_of case phase) (phase_classes case (setting_of case phase) how) ≡ true
+fits-by case phase how classes grouped fits =
+    ap (λ (cs : List Class). program_fits case (setting_of case phase) cs) (sym grouped) ∙ built-fits case (setting_of case phase) classes fits
 
 module _ (case : Case) (phase : Phase) (how : Grouping) (classes : List Class) (program : Program) (prepared : IsPrepared case phase how classes program) where
   program-of : IsProgramOf case (setting_of case phase) how program

@@ -1,4 +1,1 @@
-pub mod Points
 pub mod Phases
-pub mod Causes
-pub mod Solved

@@ -1,9 +1,9 @@
 //! One phase, solved: its program is searched, and the best point becomes an assignment of single servers.
 #![tactic(auto)]
 
+mod first;
 mod plans;
 mod points;
-mod programs;
 mod solving;
 
 pub use solving::solve;

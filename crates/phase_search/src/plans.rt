@@ -8,13 +8,14 @@ ghost use Rattle.program_rows.specs.Settings.{setting_of};
 ghost use Rattle.steady_plans.specs.Steady.{IsSteady};
 ghost use Rattle.phase_search.specs.Phases.{HasChosen, IsPlanOf, IsReady};
 
-use crate::programs::Problem;
 use class_expand::{expand, settle};
+use ip_model::Program;
 use plan_document::Planned;
 use plan_model::{Assignment, Case, copy_assignment, free_plan, rack_cost, region_cost};
 use program_rows::Phase;
 use ras_table::List;
 use std::alloc::{AllocError, Global};
+use symmetry_classes::Classes;
 
 /// The assignment that a phase starts from.
 fn start(alloc: Global, case: &Case, phase: &Phase<'_>) -> Result<Assignment, AllocError>
@@ -44,23 +45,17 @@ fn expanded(
     alloc: Global,
     case: &Case,
     phase: &Phase<'_>,
-    problem: &Problem,
+    classes: &Classes,
+    program: &Program,
     point: &List<u32>,
 ) -> Result<Assignment, AllocError>
-    requires ready { IsReady case.now phase.now problem.now.classes.list problem.now.program }
-    requires whole { IsWholePoint problem.now.program point.now }
+    requires ready { IsReady case.now phase.now classes.now.list program.now }
+    requires whole { IsWholePoint program.now point.now }
     ensures allowed { IfOk result (λ a. IsTrue (phase_allowed case.now (setting_of case.now phase.now) a)) }
-    ensures cost { IfOk result (λ a. phase_cost case.now (setting_of case.now phase.now) a ≤ value_of problem.now.program point.now) }
+    ensures cost { IfOk result (λ a. phase_cost case.now (setting_of case.now phase.now) a ≤ value_of program.now point.now) }
 {
     let mut of = start(alloc, case, phase)?;
-    expand(
-        case,
-        phase,
-        &problem.classes,
-        &problem.program,
-        point,
-        &mut of,
-    );
+    expand(case, phase, classes, program, point, &mut of);
     Ok(of)
 }
 
@@ -86,16 +81,17 @@ pub(crate) fn plan_of(
     alloc: Global,
     case: &Case,
     phase: &Phase<'_>,
-    problem: &Problem,
+    classes: &Classes,
+    program: &Program,
     point: &List<u32>,
     lower: u64,
 ) -> Result<Planned, AllocError>
-    requires ready { IsReady case.now phase.now problem.now.classes.list problem.now.program }
-    requires whole { IsWholePoint problem.now.program point.now }
+    requires ready { IsReady case.now phase.now classes.now.list program.now }
+    requires whole { IsWholePoint program.now point.now }
     requires lower { (a : Assignment) → phase_allowed case.now (setting_of case.now phase.now) a ≡ true → lower ≤ phase_cost case.now (setting_of case.now phase.now) a }
-    ensures { IfOk result (λ plan. IsPlanOf case.now (setting_of case.now phase.now) (value_of problem.now.program point.now) lower plan) }
+    ensures { IfOk result (λ plan. IsPlanOf case.now (setting_of case.now phase.now) (value_of program.now point.now) lower plan) }
 {
-    let of = expanded(alloc, case, phase, problem, point)?;
+    let of = expanded(alloc, case, phase, classes, program, point)?;
     Ok(stated(case, phase, of, lower))
 }
 
@@ -104,17 +100,18 @@ pub(crate) fn steady_plan_of(
     alloc: Global,
     case: &Case,
     phase: &Phase<'_>,
-    problem: &Problem,
+    classes: &Classes,
+    program: &Program,
     point: &List<u32>,
     lower: u64,
 ) -> Result<Planned, AllocError>
-    requires ready { IsReady case.now phase.now problem.now.classes.list problem.now.program }
-    requires whole { IsWholePoint problem.now.program point.now }
+    requires ready { IsReady case.now phase.now classes.now.list program.now }
+    requires whole { IsWholePoint program.now point.now }
     requires lower { (a : Assignment) → phase_allowed case.now (setting_of case.now phase.now) a ≡ true → lower ≤ phase_cost case.now (setting_of case.now phase.now) a }
-    ensures plan { IfOk result (λ plan. IsPlanOf case.now (setting_of case.now phase.now) (value_of problem.now.program point.now) lower plan) }
+    ensures plan { IfOk result (λ plan. IsPlanOf case.now (setting_of case.now phase.now) (value_of program.now point.now) lower plan) }
     ensures steady { IfOk result (λ plan. IsSteady case.now (setting_of case.now phase.now) plan.of) }
 {
-    let mut of = expanded(alloc, case, phase, problem, point)?;
+    let mut of = expanded(alloc, case, phase, classes, program, point)?;
     settle(alloc, case, phase, &mut of)?;
     Ok(stated(case, phase, of, lower))
 }

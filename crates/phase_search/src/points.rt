@@ -1,6 +1,6 @@
 //! Trees whose splits show no points.
 ghost use Rattle.std.specs.Prelude.{◌≡◌, length, map};
-ghost use Rattle.phase_search.specs.Points.{without_point};
+ghost use Rattle.plan_checker.specs.Points.{without_point};
 
 use bound_certificate::{Node, Tree};
 use ras_table::List;

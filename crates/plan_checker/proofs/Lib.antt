@@ -6,3 +6,6 @@ pub mod Parts
 pub mod Acceptance
 pub mod Accepting
 pub mod Written
+pub mod SolvedNodes
+pub mod SolvedParts
+pub mod Solutions

@@ -3,3 +3,8 @@ pub mod Shape
 pub mod Headline
 pub mod Laws
 pub mod Accepted
+pub mod Points
+pub mod Causes
+pub mod Solved
+pub mod Racks
+pub mod Solution

@@ -1,2 +1,0 @@
-pub mod Solution
-pub mod Racks

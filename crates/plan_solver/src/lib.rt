@@ -1,8 +1,8 @@
-//! The document of a case: the phase of the region is solved, and then that of the racks.
+//! The solver of both phases, and the document of a case that it makes.
 #![tactic(auto)]
 
-mod protections;
-mod racks;
+mod planner;
 mod solving;
 
+pub use planner::ExactPlanner;
 pub use solving::solve;

@@ -9,12 +9,13 @@ use Rattle.plan_model.specs.declared.cases.Case.{Case}
 use Rattle.plan_model.specs.declared.cases.Assignment.{Assignment}
 use Rattle.plan_model.specs.declared.cases.Grouping.{Grouping}
 use Rattle.plan_model.specs.declared.cases.Grouping.TheVariants as grouping
-use Rattle.plan_model.specs.Allowed.{region_allowed}
+use Rattle.plan_model.specs.Allowed.{fits, region_allowed}
 use Rattle.plan_model.specs.Chosen.{AreChosen}
 use Rattle.plan_model.specs.Costs.{rack_cost}
 use Rattle.plan_model.specs.Rack.{is_movable, none_or_in, some_value, keeps_to_chosen, rack_allowed}
 use Rattle.plan_model.specs.Units.{servers_with_places}
 use Rattle.plan_model.proofs.CaseFacts.{and-left, and-right}
+use Rattle.symmetry_classes.specs.declared.groups.Class.{Class}
 use Rattle.program_rows.specs.declared.fault.SizeFault.{SizeFault}
 use Rattle.program_rows.specs.declared.fault.SizeFault.TheVariants.{Columns, Rows, Memory}
 use Rattle.program_rows.specs.Choice.{chosen_of, longest_prefix, rack_program_fits, ranking}
@@ -29,8 +30,8 @@ use Rattle.plan_document.specs.declared.part.Part.{Part}
 use Rattle.plan_checker.specs.Shape.{GoesWith, HasPlan}
 use Rattle.class_expand.proofs.Chosen.{chosen-there}
 use Rattle.class_expand.proofs.Phases.{rack-phase_allowed, rack-phase_cost}
-use Rattle.phase_search.specs.Solved.{IsSolved}
-use Rattle.phase_search.proofs.Converted.{solved-other}
+use Rattle.plan_checker.specs.Solved.{IsSolved}
+use Rattle.phase_search.proofs.Converted.{solved-other, solved-by}
 
 -- ---- the region's assignment is allowed in the phase that starts from it
 
@@ -56,6 +57,9 @@ all-kept case chosen (p ∷ ps) (o ∷ os) =
 own-allowed : (case : Case) (region : Assignment) (chosen : List ℕ) → region_allowed case region ≡ true → rack_allowed case region chosen region ≡ true
 own-allowed case region chosen allowed =
     both (region_allowed case region) (list_all (keeps_to_chosen case chosen) (zip (servers_with_places case region) region.of)) allowed (all-kept case chosen case.places region.of)
+
+pub start-fits : (case : Case) (region : Assignment) → region_allowed case region ≡ true → fits case region ≡ true
+start-fits case region allowed = and-left _ _ (and-left _ _ allowed)
 
 pub start-allowed : (case : Case) (region : Assignment) (chosen : List ℕ) → region_allowed case region ≡ true → phase_allowed case (rack_setting case region chosen) region ≡ true
 start-allowed case region chosen allowed = sym (rack-phase_allowed case region chosen allowed region allowed) ∙ own-allowed case region chosen allowed
@@ -112,6 +116,12 @@ module _ (case : Case) (region : Assignment) (chosen : List ℕ) (allowed : regi
       solved-other (phase_allowed case setting) (rack_allowed case region chosen) (phase_cost case setting) (λ a. rack_cost case a chosen)
       (λ a is. rack-phase_allowed case region chosen allowed a (and-left (region_allowed case a) _ is) ∙ is)
       (λ a. sym (rack-phase_cost case region chosen are a)) case setting how wanted budget first outcome part h
+
+  -- the same over the classes of this grouping
+  pub by-classes : (classes : List Class) (r : Result (Answer × Part) SizeFault) → classes ≡ phase_classes case setting how
+      → IfOk r (λ x. (h : Grouping) → classes ≡ phase_classes case setting h → IsSolved case setting h (phase_allowed case setting) (phase_cost case setting) wanted budget (Some region) x.0 x.1)
+      → IfOk r (λ x. IsSolved case setting how (phase_allowed case setting) (phase_cost case setting) wanted budget (Some region) x.0 x.1)
+  by-classes classes r grouped h = solved-by case setting how (phase_allowed case setting) (phase_cost case setting) wanted budget (Some region) classes r grouped h
 
   pub rack-result : (r : Result (Answer × Part) SizeFault)
       → IfOk r (λ x. IsSolved case setting how (phase_allowed case setting) (phase_cost case setting) wanted budget (Some region) x.0 x.1)

@@ -6,13 +6,14 @@ ghost use Rattle.plan_model.specs.Costs.{rack_cost};
 ghost use Rattle.plan_model.specs.Rack.{rack_allowed};
 ghost use Rattle.program_rows.specs.declared.fault.SizeFault.TheVariants.{Memory};
 ghost use Rattle.program_rows.specs.Choice.{chosen_of};
-ghost use Rattle.program_rows.specs.Settings.{phase_classes, rack_setting};
+ghost use Rattle.program_rows.specs.Settings.{phase_classes as phase_classes_of, rack_setting};
 ghost use Rattle.program_rows.specs.Sizes.{IsFault, size_fault_of};
 ghost use Rattle.plan_document.specs.declared.document.Answer.TheVariants.{Infeasible};
 ghost use Rattle.plan_checker.specs.Shape.{HasPlan};
-ghost use Rattle.phase_search.specs.Solved.{IsSolved};
+ghost use Rattle.plan_checker.specs.Solved.{IsSolved};
 
 use phase_search::solve;
+use plan_checker::phase_classes;
 use plan_document::{Answer, Part};
 use plan_model::{Assignment, Case, Grouping};
 use program_rows::{Phase, SizeFault};
@@ -43,9 +44,10 @@ pub fn rack(
     ensures solved { IfOk result (λ r. IsSolved case.now (rack_setting case.now a1.now chosen.now) how (rack_allowed case.now a1.now chosen.now) (λ a. rack_cost case.now a chosen.now) gap nodes (Some a1.now) r.0 r.1) }
     ensures plan { IfOk result (λ r. HasPlan r.1.plan) }
     ensures answer { IfOk result (λ r. r.0 ≡ Infeasible → ⊥) }
-    ensures fault { IfErr result (IsFault (size_fault_of case.now (rack_setting case.now a1.now chosen.now) (phase_classes case.now (rack_setting case.now a1.now chosen.now) how))) }
+    ensures fault { IfErr result (IsFault (size_fault_of case.now (rack_setting case.now a1.now chosen.now) (phase_classes_of case.now (rack_setting case.now a1.now chosen.now) how))) }
     ensures fits { how ≡ Class → IfErr result (λ fault. fault ≡ Memory) }
 {
     let phase = Phase::Rack { from: a1, chosen };
-    solve(alloc, case, &phase, how, Some(a1), gap, nodes)
+    let classes = phase_classes(alloc, case, &phase, how)?;
+    solve(alloc, case, &phase, &classes, Some(a1), gap, nodes)
 }

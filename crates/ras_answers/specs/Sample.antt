@@ -4,7 +4,7 @@ use Rattle.ras_inventory.specs.declared.region.Region.{Region}
 use Rattle.plan_model.specs.declared.cases.Case.{Case}
 use Rattle.plan_model.specs.Joined.{IsJoined}
 use Rattle.plan_document.specs.declared.document.Document.{Document}
-use Rattle.plan_solver.specs.Solution.{IsSolution}
+use Rattle.plan_checker.specs.Solution.{IsSolution}
 use Rattle.region_gen.specs.Files.{inventory_text, requests_text, bindings_text}
 use Rattle.ras_texts.specs.Samples.{sample_text}
 use Rattle.ras_answers.specs.declared.all.CaseFiles.{CaseFiles}

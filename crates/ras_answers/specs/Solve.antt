@@ -14,7 +14,7 @@ use Rattle.plan_document.specs.declared.document.Answer.TheVariants as answer
 use Rattle.plan_document.specs.declared.document.Document.{Document}
 use Rattle.plan_document.specs.Documents.{document_of, seen_document}
 use Rattle.plan_document.specs.Written.{document_text}
-use Rattle.plan_solver.specs.Solution.{IsSolution}
+use Rattle.plan_checker.specs.Solution.{IsSolution}
 use Rattle.ras_texts.specs.Notes.{columns_note, rows_note}
 use Rattle.ras_texts.specs.Verdicts.{accepted_text}
 use Rattle.ras_answers.specs.declared.all.CaseFiles.{CaseFiles}

@@ -1,6 +1,1 @@
-pub mod Given
-pub mod Fills
-pub mod Endings
-pub mod Bests
-pub mod Running
 pub mod Regions

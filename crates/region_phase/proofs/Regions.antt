@@ -1,21 +1,22 @@
 -- The phase of the region in its own words.
-use Rattle.std.proofs.Common.{◌≡◌, ℕ, ◌+◌, Bor, sym, subst, ◌∙◌, arith, Some, None}
+use Rattle.std.proofs.Common.{◌≡◌, ℕ, ◌+◌, Bor, List, sym, subst, ◌∙◌, arith, Some, None}
 use Rattle.std.specs.Prelude.{Option, Result, Ok, Err, IfOk, IfSome, IsTrue, option_map}
 use Rattle.std.specs.Option.{option_copied}
-use Rattle.region_phase.specs.FirstPlan.{first_plan_of}
+use Rattle.first_plans.specs.FirstPlan.{first_plan_of}
 use Rattle.plan_model.specs.declared.cases.Case.{Case}
 use Rattle.plan_model.specs.declared.cases.Assignment.{Assignment}
 use Rattle.plan_model.specs.declared.cases.Grouping.{Grouping}
 use Rattle.plan_model.specs.Allowed.{region_allowed}
 use Rattle.plan_model.specs.Costs.{region_cost}
 use Rattle.plan_model.proofs.CaseFacts.{and-left}
-use Rattle.program_rows.specs.Settings.{region_setting}
+use Rattle.symmetry_classes.specs.declared.groups.Class.{Class}
+use Rattle.program_rows.specs.Settings.{phase_classes, region_setting}
 use Rattle.program_rows.specs.declared.fault.SizeFault.{SizeFault}
 use Rattle.program_rows.specs.Phases.{phase_allowed, phase_cost}
 use Rattle.plan_document.specs.declared.document.Answer.{Answer}
 use Rattle.plan_document.specs.declared.part.Part.{Part}
 use Rattle.class_expand.proofs.Phases.{region-phase_allowed}
-use Rattle.phase_search.specs.Solved.{IsSolved}
+use Rattle.plan_checker.specs.Solved.{IsSolved}
 use Rattle.phase_search.proofs.Converted.{solved-other}
 
 no-racks : (n : ℕ) → n + 0 ≡ n
@@ -47,10 +48,13 @@ pub first-is : (case : Case) (first : Option Assignment) (o : Option (Bor Assign
 first-is case first o same is = same ∙ is
 
 -- what the search answers, in the words of the region
-pub region-result : (case : Case) (how : Grouping) (wanted budget : ℕ) (first second : Option Assignment) (r : Result (Answer × Part) SizeFault) → first ≡ second
-    → IfOk r (λ x. IsSolved case (region_setting case) how (phase_allowed case (region_setting case)) (phase_cost case (region_setting case)) wanted budget first x.0 x.1)
-    → IfOk r (λ x. IsSolved case (region_setting case) how (region_allowed case) (region_cost case) wanted budget second x.0 x.1)
-region-result case how wanted budget first second (Ok x) same h =
+pub region-result : (case : Case) (classes : List Class) (wanted budget : ℕ) (first second : Option Assignment) (r : Result (Answer × Part) SizeFault) → first ≡ second
+    → IfOk r (λ x. (how : Grouping) → classes ≡ phase_classes case (region_setting case) how
+        → IsSolved case (region_setting case) how (phase_allowed case (region_setting case)) (phase_cost case (region_setting case)) wanted budget first x.0 x.1)
+    → IfOk r (λ x. (how : Grouping) → classes ≡ phase_classes case (region_setting case) how
+        → IsSolved case (region_setting case) how (region_allowed case) (region_cost case) wanted budget second x.0 x.1)
+region-result case classes wanted budget first second (Ok x) same h =
+    λ how grouped.
     subst (λ (o : Option Assignment). IsSolved case (region_setting case) how (region_allowed case) (region_cost case) wanted budget o x.0 x.1) same
-    (region-solved case how wanted budget first x.0 x.1 h)
-region-result case how wanted budget first second (Err e) same h = tt
+    (region-solved case how wanted budget first x.0 x.1 (h how grouped))
+region-result case classes wanted budget first second (Err e) same h = tt

@@ -1,6 +1,0 @@
-pub mod Kept
-pub mod Ranks
-pub mod FirstPlan
-pub mod Sums
-pub mod Best
-pub mod Laws

@@ -1,7 +1,7 @@
 use Rattle.std.proofs.Common.{◌<◌, length, arith, ap, sym, ◌∙◌}
 use Rattle.std.specs.Prelude.{slice_set}
 use Rattle.std.proofs.lemmas.List.Edits.{map_over_more}
-use Rattle.phase_search.specs.Points.{without_point}
+use Rattle.plan_checker.specs.Points.{without_point}
 use Rattle.phase_search.proofs.points.hide_points.Goals as goal
 
 pub loop-node-preserved : goal.loop-node-preserved

@@ -1,5 +1,5 @@
 use Rattle.std.proofs.Common.{◌≡◌, ◌++◌, map, take, drop}
-use Rattle.phase_search.specs.Points.{without_point}
+use Rattle.plan_checker.specs.Points.{without_point}
 use Rattle.phase_search.proofs.points.hide_points.Given as goal
 
 abbrev pub invariant-loop-node : goal.invariant-loop-node

@@ -1,10 +1,18 @@
-use Rattle.region_phase.proofs.Regions.{first-allowed, first-is, region-result}
+use Rattle.plan_model.specs.Allowed.{region_allowed}
+use Rattle.plan_model.specs.Costs.{region_cost}
+use Rattle.program_rows.specs.Settings.{region_setting}
+use Rattle.first_plans.specs.FirstPlan.{first_plan_of}
+use Rattle.phase_search.proofs.Converted.{solved-by, faults-by}
 use Rattle.region_phase.proofs.phases.region.Goals as goal
 
-pub solve-requires-clause-first : goal.solve-requires-clause-first
-solve-requires-clause-first c = first-allowed c.args.case.now c.in_ok-first.first c.as_ref.result c.as_ref.ensures.value c.in_ok-first.ensures.allowed
+pub region_with-requires-clause-classes : goal.region_with-requires-clause-classes
+region_with-requires-clause-classes c = (c.args.how, c.in_ok-classes.ensures)
 
 pub returns-clause-solved : goal.returns-clause-solved
 returns-clause-solved c =
-    region-result c.args.case.now c.args.how c.args.gap c.args.nodes _ _ c.solve.result
-    (first-is c.args.case.now c.in_ok-first.first c.as_ref.result c.as_ref.ensures.value c.in_ok-first.ensures.plan) c.solve.ensures.solved
+    solved-by c.args.case.now (region_setting c.args.case.now) c.args.how (region_allowed c.args.case.now) (region_cost c.args.case.now) c.args.gap c.args.nodes (first_plan_of c.args.case.now)
+    c.in_ok-classes.classes.list c.region_with.result c.in_ok-classes.ensures c.region_with.ensures.solved
+
+pub returns-clause-fault : goal.returns-clause-fault
+returns-clause-fault c =
+    faults-by c.args.case.now (region_setting c.args.case.now) c.args.how c.in_ok-classes.classes.list c.region_with.result c.in_ok-classes.ensures c.region_with.ensures.fault

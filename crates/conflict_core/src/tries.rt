@@ -1,0 +1,146 @@
+//! Sets that are tried, with fewer members each time.
+ghost use Rattle.std.specs.Prelude.{◌≡◌, ◌≤◌, IfErr, IfOk, length};
+ghost use Rattle.conflict_core.specs.Kept.{AreMembers};
+ghost use Rattle.conflict_core.specs.Steps.{IsClash, IsFewer, IsFound, IsStop, IsTried};
+
+use crate::sets::{cut, solve_set};
+use crate::steps::{Clash, Found, Stop, Tried};
+use plan_checker::Planner;
+use plan_document::Answer;
+use program_rows::SizeFault;
+use ras_inventory::{Bindings, Region};
+use ras_requests::Requests;
+use ras_table::List;
+use std::alloc::Global;
+
+/// Whether a set can be met.
+pub(crate) fn try_set<P: Planner>(
+    alloc: Global,
+    region: &Region,
+    requests: &Requests,
+    bindings: &Bindings,
+    members: List<u32>,
+    nodes: u32,
+    planner: &mut P,
+) -> Result<Tried, Stop>
+    requires bound { length bindings.now.of ≡ length region.now.servers }
+    requires those { AreMembers (length requests.now.list) members }
+    requires some { 1 ≤ nodes }
+    requires few { nodes ≤ 20000 }
+    ensures tried { IfOk result (IsTried region.now requests.now bindings.now members nodes) }
+    ensures stop { IfErr result (IsStop region.now requests.now bindings.now nodes) }
+{
+    let document = match solve_set(alloc, region, requests, bindings, &members, nodes, planner) {
+        Ok(document) => document,
+        Err(fault) => return Err(Stop::Size(fault)),
+    };
+    if document.region.plan.is_some() {
+        return Ok(Tried::Met(document));
+    }
+    match document.answer {
+        Answer::Limit => Err(Stop::Spent(members, document)),
+        Answer::Infeasible => Ok(Tried::Clashes(Clash {
+            members,
+            refutation: document,
+        })),
+        // A document with this answer has a plan.
+        Answer::Plan => unreachable!(),
+    }
+}
+
+/// By halving, the fewest first members that clash with the last ones, of which so many are known to be needed.
+fn halve<P: Planner>(
+    alloc: Global,
+    region: &Region,
+    requests: &Requests,
+    bindings: &Bindings,
+    clash: Clash,
+    known: u32,
+    nodes: u32,
+    planner: &mut P,
+) -> Result<Clash, Stop>
+    requires bound { length bindings.now.of ≡ length region.now.servers }
+    requires clash { IsClash region.now requests.now bindings.now nodes clash }
+    requires known { known ≤ length clash.members }
+    requires some { 1 ≤ nodes }
+    requires few { nodes ≤ 20000 }
+    ensures fewer { IfOk result (IsFewer region.now requests.now bindings.now nodes (length clash.members)) }
+    ensures stop { IfErr result (IsStop region.now requests.now bindings.now nodes) }
+{
+    let mut clash = clash;
+    // No reservations at all can be met, so that need not be tried.
+    let mut low = if known == 0 { 1 } else { 0 };
+    let mut high = clash.members.len() - known;
+    while low < high {
+        // The last ones may clash by themselves.
+        let middle = if low == 0 { 0 } else { low + (high - low) / 2 };
+        let fewer = cut(alloc, &clash.members, middle, high)?;
+        match try_set(alloc, region, requests, bindings, fewer, nodes, planner)? {
+            Tried::Met(_) => low = middle + 1,
+            Tried::Clashes(found) => {
+                clash = found;
+                high = middle;
+            }
+        }
+    }
+    Ok(clash)
+}
+
+/// Fewer members that clash: of the first ones that clash with those behind them that are known to be needed, the last one is
+/// needed too.
+pub(crate) fn narrow<P: Planner>(
+    alloc: Global,
+    region: &Region,
+    requests: &Requests,
+    bindings: &Bindings,
+    clash: Clash,
+    nodes: u32,
+    planner: &mut P,
+) -> Result<Clash, Stop>
+    requires bound { length bindings.now.of ≡ length region.now.servers }
+    requires clash { IsClash region.now requests.now bindings.now nodes clash }
+    requires some { 1 ≤ nodes }
+    requires few { nodes ≤ 20000 }
+    ensures fewer { IfOk result (IsFewer region.now requests.now bindings.now nodes (length clash.members)) }
+    ensures stop { IfErr result (IsStop region.now requests.now bindings.now nodes) }
+{
+    let mut clash = clash;
+    let mut known = 0;
+    while known < clash.members.len() {
+        clash = halve(alloc, region, requests, bindings, clash, known, nodes, planner)?;
+        known += 1;
+    }
+    Ok(clash)
+}
+
+/// What comes of taking each member away in turn.
+pub(crate) fn try_each<P: Planner>(
+    alloc: Global,
+    region: &Region,
+    requests: &Requests,
+    bindings: &Bindings,
+    members: &List<u32>,
+    nodes: u32,
+    planner: &mut P,
+) -> Result<Found, Stop>
+    requires bound { length bindings.now.of ≡ length region.now.servers }
+    requires those { AreMembers (length requests.now.list) members.now }
+    requires some { 1 ≤ nodes }
+    requires few { nodes ≤ 20000 }
+    ensures found { IfOk result (IsFound region.now requests.now bindings.now members.now nodes) }
+    ensures stop { IfErr result (IsStop region.now requests.now bindings.now nodes) }
+{
+    let mut plans = Vec::new(alloc);
+    for n in 0..members.len() {
+        let fewer = cut(alloc, members, n, n + 1)?;
+        match try_set(alloc, region, requests, bindings, fewer, nodes, planner)? {
+            Tried::Met(document) => {
+                if plans.push(document).is_err() {
+                    return Err(Stop::Size(SizeFault::Memory));
+                }
+            }
+            Tried::Clashes(clash) => return Ok(Found::Fewer(clash)),
+        }
+    }
+    Ok(Found::Plans(List::from_vec(plans)))
+}

@@ -1,5 +1,0 @@
-use Rattle.std.proofs.Common.{refl}
-use Rattle.region_phase.proofs.laws.first_plans_of_eight.Goals as goal
-
-pub returns : goal.returns
-returns c = (refl, refl, refl, refl)
