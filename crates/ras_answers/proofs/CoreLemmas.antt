@@ -1,7 +1,7 @@
 -- The documents of a core, and what is printed of them.
 use Rattle.std.proofs.Common.{ℕ, ◌+◌, ◌<◌, ◌≡◌, ◌∙◌, sym, ap, ap₂, subst, refl, arith, List, [], ◌∷◌, ◌++◌, length, map, take, get_or, All, Option, Some, None, Ok, append_assoc, inl, inr}
-use Rattle.std.specs.Prelude.{flat_map, enumerate_from}
-use Rattle.std.specs.List.{remove}
+use Rattle.std.specs.Prelude.{flat_map}
+use Rattle.std.specs.List.{enumerate_from, remove}
 use Rattle.std.proofs.lemmas.List.{append-nil, get_or-map, length-map, take_more}
 use Rattle.std.proofs.lemmas.List.Concat.{flat_map-append}
 use Rattle.std.proofs.lemmas.List.Elements.{All-append, All-cons, All-from_get_or, All-get_or, All-head, All-nil, All-tail, All-weaker}

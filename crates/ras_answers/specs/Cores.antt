@@ -1,6 +1,6 @@
 -- What `core` answers.
-use Rattle.std.specs.Prelude.{ℕ, ◌≡◌, ◌⊎◌, ⊤, List, [], ◌∷◌, ◌++◌, length, map, flat_map, enumerate_from, codes, All, Some, Ok}
-use Rattle.std.specs.List.{remove}
+use Rattle.std.specs.Prelude.{ℕ, ◌≡◌, ◌⊎◌, ⊤, List, [], ◌∷◌, ◌++◌, length, map, flat_map, codes, All, Some, Ok}
+use Rattle.std.specs.List.{enumerate_from, remove}
 use Rattle.ras_inventory.specs.RegionRule.{server_names}
 use Rattle.ras_requests.specs.RequestsRule.{reservation_names}
 use Rattle.ras_requests.specs.Requested.{Requested, requests_of}
