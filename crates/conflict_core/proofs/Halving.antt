@@ -8,9 +8,11 @@ use Rattle.plan_document.specs.declared.document.Document.{Document}
 use Rattle.conflict_core.specs.declared.steps.Clash.{Clash}
 use Rattle.conflict_core.specs.declared.steps.Tried.{Tried}
 use Rattle.conflict_core.specs.declared.steps.Tried.TheVariants.{Met, Clashes}
+use Rattle.conflict_core.specs.declared.steps.Found.{Found}
+use Rattle.conflict_core.specs.declared.steps.Found.TheVariants.{Plans}
 use Rattle.conflict_core.specs.Kept.{AreMembers}
-use Rattle.conflict_core.specs.Answers.{IsPlanFor}
-use Rattle.conflict_core.specs.Steps.{IsClash, IsFewer, IsTried}
+use Rattle.conflict_core.specs.Answers.{ArePlans, IsPlanFor}
+use Rattle.conflict_core.specs.Steps.{IsClash, IsFewer, IsFound, IsTried}
 use Rattle.conflict_core.proofs.Cuts.{cut-length, members-cut}
 
 -- what is left of a set is a set
@@ -25,6 +27,10 @@ module _ (region : Region) (requests : Requests) (bindings : Bindings) (nodes : 
   pub clash-found : (members : List ℕ) (tried : Tried) (found : Clash) → tried ≡ Clashes found → IsTried region requests bindings members nodes tried
       → (found.members ≡ members) × IsClash region requests bindings nodes found
   clash-found members tried found e h = subst (λ (t : Tried). IsTried region requests bindings members nodes t) e h
+
+  pub plans-found : (members : List ℕ) (found : Found) (plans : List Document) → found ≡ Plans plans → IsFound region requests bindings members nodes found
+      → ArePlans region requests bindings members nodes (length members) plans
+  plans-found members found plans e h = subst (λ (f : Found). IsFound region requests bindings members nodes f) e h
 
   -- a set that clashes after some members are cut out of one that clashes
   pub fewer-found : (clash found : Clash) (fewer : List ℕ) (tried : Tried) (middle high most : ℕ) → IsFewer region requests bindings nodes most clash
