@@ -1,6 +1,6 @@
 -- What documents say of sets.
-use Rattle.std.proofs.Common.{◌≡◌, ℕ, zero, suc, ◌+◌, ◌<◌, ◌++◌, ◌∷◌, ◌∙◌, ap, sym, arith, refl, subst, List, [], length, get_or, Option, Some, None, is_some, Bool, true, false}
-use Rattle.std.specs.Prelude.{Result, Ok, Err, is_err, is_ok, if◌then◌else◌, IfErr, IfOk, IfSome, ⊤}
+use Rattle.std.proofs.Common.{◌≡◌, ℕ, zero, suc, ◌+◌, ◌<◌, ◌++◌, ◌∷◌, ◌∙◌, ap, sym, arith, refl, subst, List, [], length, get_or, take, Option, Some, None, is_some, Bool, true, false}
+use Rattle.std.specs.Prelude.{Result, Ok, Err, is_err, is_ok, if◌then◌else◌, IfErr, IfOk, IfSome, drop}
 use Rattle.std.specs.List.{remove, range_with_len}
 use Rattle.std.proofs.lemmas.List.{length-append}
 use Rattle.ras_inventory.specs.declared.region.Region.{Region}
@@ -16,11 +16,9 @@ use Rattle.program_rows.specs.declared.fault.SizeFault.TheVariants.{Columns, Row
 use Rattle.program_rows.specs.Settings.{region_setting, phase_classes}
 use Rattle.program_rows.specs.Sizes.{size_fault_of, IsFault}
 use Rattle.plan_document.specs.declared.document.Document.{Document}
-use Rattle.plan_document.specs.declared.document.Answer.TheVariants as answers
 use Rattle.plan_document.specs.declared.part.Planned.{Planned}
-use Rattle.plan_document.specs.declared.part.RackPart.{RackPart}
 use Rattle.plan_checker.specs.Accepted.{IsRightPlan}
-use Rattle.plan_checker.specs.Shape.{HasPlan, GoesWith}
+use Rattle.plan_checker.specs.Shape.{HasPlan}
 use Rattle.plan_checker.specs.Solution.{IsSolution}
 use Rattle.conflict_core.specs.Kept.{AreMembers}
 use Rattle.conflict_core.specs.Cores.{IsCaseOf, CanBeMet, CannotBeMet, IsCore}
@@ -40,10 +38,11 @@ pub no-plan : (plan : Option Planned) (b : Bool) → b ≡ is_some plan → b �
 no-plan (Some plan) b e h = cc
 no-plan None b e h = refl
 
--- what holds after a push that was not refused
-pub ok-push : {T E : Type 0} (r : Result T E) (b : Bool) (xs ys : List Document) → b ≡ is_err r → b ≡ false → (if is_ok r then xs else ys) ≡ xs
-ok-push (Ok x) b xs ys e h = refl
-ok-push (Err y) b xs ys e h = cc
+-- after a push that was not refused
+pub after-push : {T E : Type 0} (r : Result T E) (refused : Bool) (was now : List Document) (document : Document) → refused ≡ is_err r → refused ≡ false
+    → now ≡ (if is_ok r then was ++ document ∷ [] else was) → now ≡ was ++ document ∷ []
+after-push (Ok x) refused was now document e h is = is
+after-push (Err y) refused was now document e h is = cc
 
 at-push : (P : Document → Type 0) (plans : List Document) (document : Document) (n : ℕ) (d : Document) → n < suc (length plans) → (n < length plans → P (get_or plans n d))
     → (n ≡ length plans → P document) → P (get_or (plans ++ document ∷ []) n d)
@@ -100,9 +99,9 @@ module _ (region : Region) (requests : Requests) (bindings : Bindings) where
     pub none-yet : (plans : List Document) → plans ≡ [] → ArePlans region requests bindings members nodes 0 plans
     none-yet plans e = record { many = ap length e; each = λ n d within. absurd (omega (arith, within)) }
 
-    pub one-more : (plans : List Document) (document : Document) (count : ℕ) → IsPlanFor region requests bindings (remove members count) nodes document
+    more-plans : (plans : List Document) (document : Document) (count : ℕ) → IsPlanFor region requests bindings (remove members count) nodes document
         → ArePlans region requests bindings members nodes count plans → ArePlans region requests bindings members nodes (count + 1) (plans ++ document ∷ [])
-    one-more plans document count is h = record {
+    more-plans plans document count is h = record {
       many = omega (arith, h.many, length-append plans (document ∷ []));
       each = λ n d within.
           at-push (IsPlanFor region requests bindings (remove members n) nodes) plans document n d (omega (arith, within, h.many))
@@ -111,3 +110,13 @@ module _ (region : Region) (requests : Requests) (bindings : Bindings) where
           let here : count ≡ n = omega (arith, same, h.many) in
           subst (λ k. IsPlanFor region requests bindings (remove members k) nodes document) here is);
     }
+
+    -- one more, for the set without the next member
+    pub one-more : (plans now : List Document) (document : Document) (count : ℕ) (fewer : List ℕ) → now ≡ plans ++ document ∷ [] → fewer ≡ take count members ++ drop (count + 1) members
+        → IsPlanFor region requests bindings fewer nodes document → ArePlans region requests bindings members nodes count plans
+        → ArePlans region requests bindings members nodes (count + 1) now
+    one-more plans now document count fewer e cut is h =
+        let next : count + 1 ≡ suc count = omega arith in
+        let same : fewer ≡ remove members count = cut ∙ ap (λ k. take count members ++ drop k members) next in
+        subst (λ (ds : List Document). ArePlans region requests bindings members nodes (count + 1) ds) (sym {A = List Document} e)
+        (more-plans plans document count (subst (λ (xs : List ℕ). IsPlanFor region requests bindings xs nodes document) same is) h)

@@ -1,5 +1,5 @@
 //! Sets that are tried, with fewer members each time.
-ghost use Rattle.std.specs.Prelude.{◌≡◌, ◌≤◌, IfErr, IfOk, length};
+ghost use Rattle.std.specs.Prelude.{◌≡◌, ◌≤◌, ◌<◌, IfErr, IfOk, length};
 ghost use Rattle.conflict_core.specs.Kept.{AreMembers};
 ghost use Rattle.conflict_core.specs.Steps.{IsClash, IsFewer, IsFound, IsStop, IsTried};
 
@@ -48,6 +48,18 @@ pub(crate) fn try_set<P: Planner>(
     }
 }
 
+/// A place between two, and the first one where that is 0.
+fn middle_of(low: u32, high: u32) -> u32
+    requires { low < high }
+    ensures low { low ≤ result }
+    ensures high { result < high }
+{
+    if low == 0 {
+        return 0;
+    }
+    low + (high - low) / 2
+}
+
 /// By halving, the fewest first members that clash with the last ones, of which so many are known to be needed.
 fn halve<P: Planner>(
     alloc: Global,
@@ -72,8 +84,8 @@ fn halve<P: Planner>(
     let mut low = if known == 0 { 1 } else { 0 };
     let mut high = clash.members.len() - known;
     while low < high {
-        // The last ones may clash by themselves.
-        let middle = if low == 0 { 0 } else { low + (high - low) / 2 };
+        // The last ones may clash by themselves, which is tried first.
+        let middle = middle_of(low, high);
         let fewer = cut(alloc, &clash.members, middle, high)?;
         match try_set(alloc, region, requests, bindings, fewer, nodes, planner)? {
             Tried::Met(_) => low = middle + 1,
