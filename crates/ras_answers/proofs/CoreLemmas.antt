@@ -1,8 +1,8 @@
 -- The documents of a core, and what is printed of them.
-use Rattle.std.proofs.Common.{ℕ, ◌+◌, ◌<◌, ◌≡◌, ◌∙◌, sym, ap, ap₂, subst, refl, arith, List, [], ◌∷◌, ◌++◌, length, map, take, get_or, All, Option, Some, None, Ok, append_assoc, inl, inr}
+use Rattle.std.proofs.Common.{ℕ, ◌+◌, ◌<◌, ◌≡◌, ◌∙◌, sym, ap, ap₂, subst, refl, ◌≤◌, arith, List, [], ◌∷◌, ◌++◌, length, map, take, get_or, All, Option, Some, None, Ok, append_assoc, codes, inl, inr}
 use Rattle.std.specs.Prelude.{flat_map}
 use Rattle.std.specs.List.{enumerate_from, remove}
-use Rattle.std.proofs.lemmas.List.{append-nil, get_or-map, length-map, take_more}
+use Rattle.std.proofs.lemmas.List.{append-nil, get_or-map, length-map, take_all, take_more}
 use Rattle.std.proofs.lemmas.List.Concat.{flat_map-append}
 use Rattle.std.proofs.lemmas.List.Elements.{All-append, All-cons, All-from_get_or, All-get_or, All-head, All-nil, All-tail, All-weaker}
 use Rattle.std.proofs.lemmas.List.FromFn.{get_or-enumerate_from, length-enumerate_from}
@@ -16,17 +16,19 @@ use Rattle.program_rows.specs.declared.fault.SizeFault.{SizeFault}
 use Rattle.program_rows.specs.declared.fault.SizeFault.TheVariants.{Columns, Rows, Memory}
 use Rattle.plan_document.specs.declared.document.Document.{Document}
 use Rattle.plan_document.specs.Documents.{document_of, seen_document}
+use Rattle.plan_document.specs.Writable.{CanBeWritten}
 use Rattle.plan_document.specs.Written.{document_text}
 use Rattle.conflict_core.specs.declared.answer.CoreAnswer.{CoreAnswer}
 use Rattle.conflict_core.specs.declared.answer.CoreAnswer.TheVariants.{Core, Fits, Limit}
 use Rattle.conflict_core.specs.Kept.{AreMembers, all_members, kept_list}
 use Rattle.conflict_core.specs.Answers.{ArePlans, IsCoreAnswer, IsDocumentOf}
-use Rattle.conflict_core.proofs.Fewer.{all-members, members-but}
+use Rattle.conflict_core.proofs.Fewer.{all-members, kept-all, members-but}
+use Rattle.ras_texts.specs.Sets.{names_line}
 use Rattle.ras_answers.specs.declared.all.CaseFiles.{CaseFiles}
 use Rattle.ras_answers.specs.declared.answer.Ending.{Ending}
 use Rattle.ras_answers.specs.Answered.{Printed}
 use Rattle.ras_answers.specs.ByCase.{ByCaseNote, CaseAnswers}
-use Rattle.ras_answers.specs.Cores.{AddsShown, CanBePrinted, CanBeShown, CoreIsChecked, HasPlanForEach, IsChecked, IsCheckedCore, IsCoreOf, IsCorePrinted, IsReadAgain, Shown, core_ending, names_in, shown_of, shown_text, without_each}
+use Rattle.ras_answers.specs.Cores.{AddsShown, CanBePrinted, CanBeShown, CoreIsChecked, HasPlanForEach, IsChecked, IsCheckedCore, IsCoreOf, IsCorePrinted, IsCoreText, IsReadAgain, Shown, core_ending, names_in, shown_of, shown_text, without_each}
 use Rattle.ras_answers.specs.Inputs.{AreCaseFiles, case_read, note_in}
 use Rattle.ras_answers.specs.Solve.{size_answer}
 use Rattle.ras_answers.proofs.JoinLemmas.{places-many, wants-many}
@@ -94,23 +96,6 @@ can-print files nodes answer each h = record {
 
 -- ---- texts that grow
 
--- a document is written over the requests that were kept
-pub adds-one : (files : CaseFiles) (members : List ℕ) (document : Document) (kept : List Reservation) (before text after : List ℕ)
-    → kept ≡ kept_list files.requests.list members
-    → text ≡ document_text (server_names files.region.servers) (reservation_names kept) (seen_document document)
-    → document_of (server_names files.region.servers) (reservation_names kept) text ≡ Ok (seen_document document)
-    → after ≡ before ++ text → AddsShown files ((members, document) ∷ []) before after
-adds-one files members document kept before text after is written again grown =
-    let same : text ≡ shown_text files (members, document) =
-        written ∙ ap (λ (list : List Reservation). document_text (server_names files.region.servers) (reservation_names list) (seen_document document)) is in
-    record {
-      text = grown ∙ ap (λ t. before ++ t) (same ∙ sym (append-nil (shown_text files (members, document))));
-      again = All-cons (IsReadAgain files) (members, document) [] (rw (sym is, sym same) again) (All-nil (IsReadAgain files));
-    }
-
-pub adds-none : (files : CaseFiles) (text : List ℕ) → AddsShown files [] text text
-adds-none files text = record { text = sym (append-nil text); again = All-nil (IsReadAgain files) }
-
 pub adds-both : (files : CaseFiles) (some more : List Shown) (before text after : List ℕ) → AddsShown files some before text → AddsShown files more text after
     → AddsShown files (some ++ more) before after
 adds-both files some more before text after one two = record {
@@ -128,11 +113,17 @@ pub adds-plan : (files : CaseFiles) (members : List ℕ) (plans : List Document)
 adds-plan files members plans n fewer plan before text after h without is one two =
     let there : n < length (without_each members plans) = omega (arith, h, plans-many members plans) in
     let same : get_or (without_each members plans) n (fewer, plan) ≡ (fewer, plan) =
-        plan-at members plans n (fewer, plan) h ∙ ap₂ (λ (s : List ℕ) (d : Document). (s, d)) (sym without) (sym is) in
+    plan-at members plans n (fewer, plan) h ∙ ap₂ (λ (s : List ℕ) (d : Document). (s, d)) (sym without) (sym is) in
     let next : take (n + 1) (without_each members plans) ≡ take n (without_each members plans) ++ (fewer, plan) ∷ [] =
-        take_more (without_each members plans) n (fewer, plan) there ∙ ap (λ s. take n (without_each members plans) ++ s ∷ []) same in
+    take_more (without_each members plans) n (fewer, plan) there ∙ ap (λ s. take n (without_each members plans) ++ s ∷ []) same in
     subst (λ (list : List Shown). AddsShown files list before after) (sym next)
     (adds-both files (take n (without_each members plans)) ((fewer, plan) ∷ []) before text after one two)
+
+-- all plans
+pub adds-all : (files : CaseFiles) (members : List ℕ) (plans : List Document) (n : ℕ) (before text : List ℕ) → length plans ≤ n
+    → AddsShown files (take n (without_each members plans)) before text → AddsShown files (without_each members plans) before text
+adds-all files members plans n before text past grown =
+    subst (λ (list : List Shown). AddsShown files list before text) (take_all n (without_each members plans) (omega (arith, past, plans-many members plans))) grown
 
 -- the n-th plan can be shown
 pub can-show-plan : (files : CaseFiles) (members : List ℕ) (plans : List Document) (n : ℕ) (fewer : List ℕ) (plan : Document) → n < length plans
@@ -140,8 +131,44 @@ pub can-show-plan : (files : CaseFiles) (members : List ℕ) (plans : List Docum
 can-show-plan files members plans n fewer plan h without is all =
     let there : n < length (without_each members plans) = omega (arith, h, plans-many members plans) in
     let same : get_or (without_each members plans) n (fewer, plan) ≡ (fewer, plan) =
-        plan-at members plans n (fewer, plan) h ∙ ap₂ (λ (s : List ℕ) (d : Document). (s, d)) (sym without) (sym is) in
+    plan-at members plans n (fewer, plan) h ∙ ap₂ (λ (s : List ℕ) (d : Document). (s, d)) (sym without) (sym is) in
     subst (CanBeShown files) same (All-get_or (CanBeShown files) (without_each members plans) n (fewer, plan) there all)
+
+-- ---- whole texts
+
+-- a line, a refutation and plans
+pub clash-text : (files : CaseFiles) (members : List ℕ) (refutation : Document) (plans : List Document) (kept : List Reservation) (empty line one after : List ℕ)
+    → empty ≡ [] → kept ≡ kept_list files.requests.list members → line ≡ empty ++ names_line (codes "core") (reservation_names kept)
+    → AddsShown files ((members, refutation) ∷ []) line one → AddsShown files (without_each members plans) one after → IsCoreText files (Core members refutation plans) after
+clash-text files members refutation plans kept empty line one after none is line_is first rest =
+    let both = adds-both files ((members, refutation) ∷ []) (without_each members plans) line one after first rest in
+    let whole : line ≡ names_line (codes "core") (names_in files members) =
+    line_is ∙ ap₂ (λ (t : List ℕ) (list : List Reservation). t ++ names_line (codes "core") (reservation_names list)) none is in
+    record {
+      is = both.text ∙ ap (λ t. t ++ flat_map (shown_text files) ((members, refutation) ∷ without_each members plans)) whole;
+      again = both.again;
+    }
+
+-- a plan over all requests
+pub whole-writable : (files : CaseFiles) (plan : Document) → CanBePrinted files (Fits plan)
+    → CanBeWritten (server_names files.region.servers) (reservation_names files.requests.list) plan
+whole-writable files plan can =
+    subst (λ (list : List Reservation). CanBeWritten (server_names files.region.servers) (reservation_names list) plan) (kept-all files.requests.list)
+    (All-head (CanBeShown files) (all_members files.requests, plan) [] can.shown).writable
+
+pub whole-text : (files : CaseFiles) (plan : Document) (text : List ℕ)
+    → text ≡ document_text (server_names files.region.servers) (reservation_names files.requests.list) (seen_document plan)
+    → document_of (server_names files.region.servers) (reservation_names files.requests.list) text ≡ Ok (seen_document plan) → IsCoreText files (Fits plan) text
+whole-text files plan text written again =
+    let shown : Shown = (all_members files.requests, plan) in
+    let servers = server_names files.region.servers in
+    let whole = sym (kept-all files.requests.list) in
+    let same : text ≡ shown_text files shown = written ∙ ap (λ (list : List Reservation). document_text servers (reservation_names list) (seen_document plan)) whole in
+    record {
+      is = same ∙ sym (append-nil (shown_text files shown));
+      again = All-cons (IsReadAgain files) shown [] (subst (λ (t : List ℕ). document_of servers (names_in files shown.0) t ≡ Ok (seen_document plan)) same
+          (subst (λ (list : List Reservation). document_of servers (reservation_names list) text ≡ Ok (seen_document plan)) whole again)) (All-nil (IsReadAgain files));
+    }
 
 -- ---- what is printed is checked
 

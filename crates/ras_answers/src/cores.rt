@@ -81,11 +81,7 @@ fn clash_text(
 }
 
 // The text of a plan for all reservations.
-fn plan_text(
-    alloc: Global,
-    files: &CaseFiles,
-    plan: &Document,
-) -> Result<Vec<u8>, AllocError>
+fn plan_text(alloc: Global, files: &CaseFiles, plan: &Document) -> Result<Vec<u8>, AllocError>
     requires { CanBePrinted files.now (Fits plan.now) }
     ensures { IfOk result (λ text. IsCoreText files.now (Fits plan.now) text.items) }
 {
@@ -111,11 +107,7 @@ fn spent_text(
 }
 
 // The text of an answer.
-fn core_text(
-    alloc: Global,
-    files: &CaseFiles,
-    answer: &CoreAnswer,
-) -> Result<Vec<u8>, AllocError>
+fn core_text(alloc: Global, files: &CaseFiles, answer: &CoreAnswer) -> Result<Vec<u8>, AllocError>
     requires { CanBePrinted files.now answer.now }
     ensures { IfOk result (λ text. IsCoreText files.now answer.now text.items) }
 {
