@@ -119,7 +119,9 @@ pub(crate) fn narrow<P: Planner>(
     let mut clash = clash;
     let mut known = 0;
     while known < clash.members.len() {
-        clash = halve(alloc, region, requests, bindings, clash, known, nodes, planner)?;
+        clash = halve(
+            alloc, region, requests, bindings, clash, known, nodes, planner,
+        )?;
         known += 1;
     }
     Ok(clash)
