@@ -32,7 +32,9 @@ fn core_of<P: Planner>(
 {
     let mut clash = clash;
     loop {
-        clash = narrow(alloc, region, requests, bindings, clash, nodes, planner)?;
+        narrow(
+            alloc, region, requests, bindings, &mut clash, nodes, planner,
+        )?;
         match try_each(
             alloc,
             region,
