@@ -61,9 +61,7 @@ pub(crate) fn after_region<P: Planner>(
     ensures fault { IfErr result (λ fault. fault ≡ Memory) }
 {
     match (answer, &part.plan) {
-        (Answer::Plan, Some(plan)) => after_plan(
-            alloc, case, &plan.of, gap, nodes, racks, planner,
-        ),
+        (Answer::Plan, Some(plan)) => after_plan(alloc, case, &plan.of, gap, nodes, racks, planner),
         _ => Ok((answer, None)),
     }
 }

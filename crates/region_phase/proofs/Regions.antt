@@ -50,9 +50,9 @@ first-is case first o same is = same ∙ is
 -- what the search answers, in the words of the region
 pub region-result : (case : Case) (classes : List Class) (wanted budget : ℕ) (first second : Option Assignment) (r : Result (Answer × Part) SizeFault) → first ≡ second
     → IfOk r (λ x. (how : Grouping) → classes ≡ phase_classes case (region_setting case) how
-        → IsSolved case (region_setting case) how (phase_allowed case (region_setting case)) (phase_cost case (region_setting case)) wanted budget first x.0 x.1)
+    → IsSolved case (region_setting case) how (phase_allowed case (region_setting case)) (phase_cost case (region_setting case)) wanted budget first x.0 x.1)
     → IfOk r (λ x. (how : Grouping) → classes ≡ phase_classes case (region_setting case) how
-        → IsSolved case (region_setting case) how (region_allowed case) (region_cost case) wanted budget second x.0 x.1)
+    → IsSolved case (region_setting case) how (region_allowed case) (region_cost case) wanted budget second x.0 x.1)
 region-result case classes wanted budget first second (Ok x) same h =
     λ how grouped.
     subst (λ (o : Option Assignment). IsSolved case (region_setting case) how (region_allowed case) (region_cost case) wanted budget o x.0 x.1) same

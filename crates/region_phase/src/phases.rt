@@ -38,7 +38,15 @@ pub fn region_with(
     ensures fault { IfErr result (IsFault (size_fault_of case.now (region_setting case.now) classes.now.list)) }
 {
     let first = first_plan(alloc, case)?;
-    solve(alloc, case, &Phase::Region, classes, first.as_ref(), gap, nodes)
+    solve(
+        alloc,
+        case,
+        &Phase::Region,
+        classes,
+        first.as_ref(),
+        gap,
+        nodes,
+    )
 }
 
 /// Solves the phase of the region with this grouping: until the gap is at most the wanted one, 0 to 10^12, or the nodes, 1
