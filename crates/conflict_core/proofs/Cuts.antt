@@ -5,9 +5,9 @@ use Rattle.std.specs.List.{list_all}
 use Rattle.std.proofs.lemmas.Bool.Decides.{nat_tests}
 use Rattle.std.proofs.lemmas.List.Elements.{All-get_or, All-from_get_or}
 use Rattle.plan_model.proofs.CaseFacts.{list_all-at, and-left, and-right}
+use Rattle.plan_model.proofs.JoinRule.{both}
 use Rattle.conflict_core.specs.Kept.{rises, AreMembers}
 use Rattle.conflict_core.proofs.KeepRule.{all-at}
-use Rattle.conflict_core.proofs.Stays.{both}
 
 all-drop : (test : ℕ → Bool) (xs : List ℕ) (n : ℕ) → list_all test xs ≡ true → list_all test (drop n xs) ≡ true
 all-drop test xs zero all = all

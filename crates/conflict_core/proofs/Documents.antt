@@ -1,7 +1,7 @@
 -- What documents say of sets.
 use Rattle.std.proofs.Common.{◌≡◌, ℕ, zero, suc, ◌+◌, ◌<◌, ◌++◌, ◌∷◌, ◌∙◌, ap, sym, arith, refl, subst, List, [], length, get_or, take, Option, Some, None, is_some, Bool, true, false}
 use Rattle.std.specs.Prelude.{Result, Ok, Err, is_err, is_ok, if◌then◌else◌, IfErr, IfOk, IfSome, drop}
-use Rattle.std.specs.List.{remove, range_with_len}
+use Rattle.std.specs.List.{remove}
 use Rattle.std.proofs.lemmas.List.{length-append}
 use Rattle.ras_inventory.specs.declared.region.Region.{Region}
 use Rattle.ras_inventory.specs.declared.bindings.Bindings.{Bindings}
@@ -23,12 +23,6 @@ use Rattle.plan_checker.specs.Solution.{IsSolution}
 use Rattle.conflict_core.specs.Kept.{AreMembers}
 use Rattle.conflict_core.specs.Cores.{IsCaseOf, CanBeMet, CannotBeMet, IsCore}
 use Rattle.conflict_core.specs.Answers.{IsDocumentOf, IsFaultOf, IsPlanFor, IsRefutationOf, ArePlans}
-
-pub range-more : (a n : ℕ) → range_with_len a (suc n) ≡ range_with_len a n ++ (a + n) ∷ []
-range-more a zero = let e : a ≡ a + 0 = omega arith in ap (λ x. x ∷ []) e
-range-more a (suc n) =
-    let e : a + 1 + n ≡ a + suc n = omega arith in
-    ap (λ xs. a ∷ xs) (range-more (a + 1) n ∙ ap (λ x. range_with_len (a + 1) n ++ x ∷ []) e)
 
 pub has-plan : (plan : Option Planned) (b : Bool) → b ≡ is_some plan → b ≡ true → HasPlan plan
 has-plan (Some plan) b e h = tt

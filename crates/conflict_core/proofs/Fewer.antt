@@ -12,7 +12,7 @@ use Rattle.ras_requests.specs.declared.requests.Reservation.{Reservation}
 use Rattle.ras_requests.specs.declared.all.Requests.{Requests}
 use Rattle.plan_model.specs.declared.cases.Case.{Case}
 use Rattle.plan_model.specs.Joined.{IsJoined, joined_place, joined_want}
-use Rattle.plan_model.proofs.JoinRule.{joined-rule}
+use Rattle.plan_model.proofs.JoinRule.{both, joined-rule}
 use Rattle.plan_model.proofs.JoinedOnce.{joined-once}
 use Rattle.conflict_core.specs.Kept.{rises, AreMembers, IsKeptTo, all_members, kept_list, reservation_of, no_reservation}
 use Rattle.conflict_core.specs.Cases.{kept_assignment}
@@ -21,7 +21,7 @@ use Rattle.conflict_core.specs.Laws.{FewerCanBeMet, MetOrNot}
 use Rattle.plan_model.specs.Allowed.{region_allowed}
 use Rattle.conflict_core.proofs.KeepRule.{kept-rule}
 use Rattle.conflict_core.proofs.Joins.{kept-joins}
-use Rattle.conflict_core.proofs.Stays.{kept-stays, both}
+use Rattle.conflict_core.proofs.Stays.{kept-stays}
 use Rattle.conflict_core.proofs.Cuts.{members-cut}
 
 -- ---- lists without one element

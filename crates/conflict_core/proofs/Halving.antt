@@ -1,5 +1,5 @@
 -- Sets that clash, with fewer members each time.
-use Rattle.std.proofs.Common.{◌≡◌, ℕ, suc, ◌+◌, ◌++◌, ◌<◌, ◌≤◌, ◌∙◌, ap, sym, arith, refl, subst, List, length, take}
+use Rattle.std.proofs.Common.{◌≡◌, ℕ, suc, ◌+◌, ◌++◌, ◌<◌, ◌≤◌, ◌∙◌, ap, sym, arith, refl, subst, Bool, true, false, List, length, take}
 use Rattle.std.specs.Prelude.{drop}
 use Rattle.ras_inventory.specs.declared.region.Region.{Region}
 use Rattle.ras_inventory.specs.declared.bindings.Bindings.{Bindings}
@@ -12,7 +12,7 @@ use Rattle.conflict_core.specs.declared.steps.Found.{Found}
 use Rattle.conflict_core.specs.declared.steps.Found.TheVariants.{Plans}
 use Rattle.conflict_core.specs.Kept.{AreMembers}
 use Rattle.conflict_core.specs.Answers.{ArePlans, IsPlanFor}
-use Rattle.conflict_core.specs.Steps.{IsClash, IsFewer, IsFound, IsTried}
+use Rattle.conflict_core.specs.Steps.{AreLeft, IsClash, IsFewer, IsFound, IsTried}
 use Rattle.conflict_core.proofs.Cuts.{cut-length, members-cut}
 
 -- what is left of a set is a set
@@ -32,11 +32,17 @@ module _ (region : Region) (requests : Requests) (bindings : Bindings) (nodes : 
       → ArePlans region requests bindings members nodes (length members) plans
   plans-found members found plans e h = subst (λ (f : Found). IsFound region requests bindings members nodes f) e h
 
-  -- a set that clashes after some members are cut out of one that clashes
-  pub fewer-found : (clash found : Clash) (fewer : List ℕ) (tried : Tried) (middle high most : ℕ) → IsFewer region requests bindings nodes most clash
-      → fewer ≡ take middle clash.members ++ drop high clash.members → middle ≤ high → high ≤ length clash.members → tried ≡ Clashes found
-      → IsTried region requests bindings fewer nodes tried → IsFewer region requests bindings nodes most found × (middle ≤ length found.members)
-  fewer-found clash found fewer tried middle high most before cut order within e h =
-      let is = clash-found fewer tried found e h in
-      let many : length found.members + high ≡ length clash.members + middle = ap (λ xs. length xs + high) (is.0 ∙ cut) ∙ cut-length clash.members middle high order within in
-      (record { clashes = is.1; few = omega (arith, many, before.few, order, within) }, omega (arith, many, order, within))
+  -- a set that clashes after members were cut out of one, or not
+  pub fewer-left : (clash left : Clash) (done : Bool) (middle high most : ℕ) → done ≡ true → IsFewer region requests bindings nodes most clash → middle ≤ high → high ≤ length clash.members
+      → IsClash region requests bindings nodes left → AreLeft clash.members middle high done left.members → IsFewer region requests bindings nodes most left × (middle ≤ length left.members)
+  fewer-left clash left true middle high most e before order within is cut =
+      let many : length left.members + high ≡ length clash.members + middle = ap (λ xs. length xs + high) cut ∙ cut-length clash.members middle high order within in
+      (record { clashes = is; few = omega (arith, many, before.few, order, within) }, omega (arith, many, order, within))
+  fewer-left clash left false middle high most e before order within is cut = cc
+
+  pub as-left : (clash left : Clash) (done : Bool) (middle high most : ℕ) → done ≡ false → IsFewer region requests bindings nodes most clash → high ≤ length clash.members
+      → IsClash region requests bindings nodes left → AreLeft clash.members middle high done left.members → IsFewer region requests bindings nodes most left × (high ≤ length left.members)
+  as-left clash left false middle high most e before within is same =
+      let many : length left.members ≡ length clash.members = ap length same in
+      (record { clashes = is; few = omega (arith, many, before.few) }, omega (arith, many, within))
+  as-left clash left true middle high most e before within is same = cc

@@ -13,12 +13,9 @@ use Rattle.ras_requests.specs.declared.all.Requests.{Requests}
 use Rattle.ras_requests.specs.RequestsRule.{requests_rule, reservation_names, reservation_rule}
 use Rattle.plan_model.proofs.CaseFacts.{list_all-at, and-left, and-right}
 use Rattle.plan_model.proofs.JoinLemmas.{differ-at}
+use Rattle.plan_model.proofs.JoinRule.{both}
 use Rattle.conflict_core.specs.Kept.{rises, AreMembers, kept_list, reservation_of, no_reservation}
 use Rattle.conflict_core.proofs.Members.{rises-at}
-
-both : (a b : Bool) → a ≡ true → b ≡ true → (a && b) ≡ true
-both true b e h = h
-both false b e h = e
 
 neither : (a b : Bool) → a ≡ false → b ≡ false → (a || b) ≡ false
 neither true b e h = e
@@ -68,6 +65,15 @@ names-apart list (r ∷ rs) differ h there =
     (λ i within. other-name list r (get_or rs i 0) differ (rises-at (r ∷ rs) 0 (suc i) h (omega arith) (omega arith)) (there (suc i) (omega arith)))))
     (names-apart list rs differ (and-right _ _ h) (λ i within. there (suc i) (omega arith)))
 
+few-at-most : (n : ℕ) → nat_le n 64 ≡ true → n ≤ 64
+few-at-most n h = grind (arith, nat_tests, h)
+
+pub few-reservations : (requests : Requests) → length requests.list ≤ 64
+few-reservations requests = few-at-most (length requests.list) (and-right _ _ (and-left _ _ (and-left _ _ requests.kept)))
+
+few-kept : (list members kept : ℕ) → nat_le list 64 ≡ true → members ≤ list → kept ≡ members → nat_le kept 64 ≡ true
+few-kept list members kept many fewer same = grind (arith, nat_tests, many, fewer, same)
+
 pub kept-rule : (requests : Requests) (members : List ℕ) → AreMembers (length requests.list) members → IsTrue (requests_rule requests.moves (kept_list requests.list members))
 kept-rule requests members those =
     let differ : names_differ (reservation_names requests.list) ≡ true = and-right _ _ requests.kept in
@@ -76,7 +82,7 @@ kept-rule requests members those =
     let inside : (i : ℕ) → i < length members → get_or members i 0 < length requests.list = λ i within. All-get_or (λ r. r < length requests.list) members i 0 within those.there in
     let fewer : length members ≤ length requests.list = few-members members (length requests.list) those in
     let same : length (kept_list requests.list members) ≡ length members = length-map members (reservation_of requests.list) in
-    let few : nat_le (length (kept_list requests.list members)) 64 ≡ true = grind (arith, nat_tests, many, fewer, same) in
+    let few : nat_le (length (kept_list requests.list members)) 64 ≡ true = few-kept (length requests.list) (length members) (length (kept_list requests.list members)) many fewer same in
     both _ _
     (both _ _
     (both _ _ (and-left _ _ (and-left _ _ (and-left _ _ requests.kept))) few)

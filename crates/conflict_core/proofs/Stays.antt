@@ -23,14 +23,11 @@ use Rattle.plan_model.specs.Allowed.{fits, serves, keeps_need, survives, region_
 use Rattle.plan_model.proofs.CaseFacts.{and-left, and-right}
 use Rattle.plan_model.proofs.SumLemmas.{sum_by-filter}
 use Rattle.plan_model.proofs.AllowedLaws.{list_all-range_at}
+use Rattle.plan_model.proofs.JoinRule.{both}
 use Rattle.conflict_core.specs.Kept.{AreMembers}
 use Rattle.conflict_core.specs.Cases.{number_in, kept_place, kept_to, kept_assignment, IsKeptCase}
 use Rattle.conflict_core.specs.Laws.{KeptStaysAllowed}
 use Rattle.conflict_core.proofs.Members.{for-member}
-
-pub both : (a b : Bool) → a ≡ true → b ≡ true → (a && b) ≡ true
-both true b e h = h
-both false b e h = e
 
 sum-pairs : {X Y Z W : Type 0} (f : Z × W → ℕ) (g : X × Y → ℕ) (u : X → Z) (v : Y → W) → ((x : X) (y : Y) → f (u x, v y) ≡ g (x, y))
     → (xs : List X) (ys : List Y) → sum_by f (zip (map u xs) (map v ys)) ≡ sum_by g (zip xs ys)
@@ -158,6 +155,9 @@ module _ (members : List ℕ) (case other : Case) (a : Assignment) (those : AreM
           let same : want_of other k ≡ want_of case r = want-same k there.0 ∙ ap (want_of case) is in
           ap (λ (w : Want). p.up && nat_lt 0 (slice_index w.values p.kind)) same ∙ served
 
+  inside : (n : ℕ) → n < length other.wants → n < length members
+  inside n within = omega (arith, many, within)
+
   pub stays : region_allowed case a ≡ true → region_allowed other after ≡ true
   stays allowed =
       let needs : list_all (keeps_need case a) (all_reservations case) ≡ true = and-right _ _ allowed in
@@ -166,9 +166,8 @@ module _ (members : List ℕ) (case other : Case) (a : Assignment) (those : AreM
       (both _ _ (fits-there (and-left _ _ (and-left _ _ allowed)))
       (ap (list_all (serves other)) pairs ∙ all-pairs (serves other) (serves case) (kept_place members) (kept_to members) serves-there case.places a.of served))
       (all-range (keeps_need other after) 0 (length other.wants) (λ n within.
-      let inside : n < length members = omega (arith, many) in
-      keeps-same n inside
-      ∙ list_all-range_at (keeps_need case a) (length case.wants) (get_or members n 0) needs (All-get_or (λ r. r < length case.wants) members n 0 inside those.there)))
+      keeps-same n (inside n within)
+      ∙ list_all-range_at (keeps_need case a) (length case.wants) (get_or members n 0) needs (All-get_or (λ r. r < length case.wants) members n 0 (inside n within) those.there)))
 
 pub kept-stays : KeptStaysAllowed
 kept-stays members case other a those kept allowed = stays members case other a those kept allowed

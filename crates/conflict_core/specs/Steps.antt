@@ -1,5 +1,5 @@
 -- What is found on the way to a core.
-use Rattle.std.specs.Prelude.{ℕ, ◌≡◌, ◌<◌, ◌≤◌, List, length}
+use Rattle.std.specs.Prelude.{ℕ, ◌≡◌, ◌<◌, ◌≤◌, ◌++◌, Bool, true, false, List, length, take, drop}
 use Rattle.ras_inventory.specs.declared.region.Region.{Region}
 use Rattle.ras_inventory.specs.declared.bindings.Bindings.{Bindings}
 use Rattle.ras_requests.specs.declared.all.Requests.{Requests}
@@ -38,3 +38,8 @@ abbrev pub IsStop : Region → Requests → Bindings → ℕ → Stop → Type 0
 IsStop region requests bindings nodes (Size fault) = IsFaultOf region requests bindings fault
 IsStop region requests bindings nodes (Spent over document) =
     AreMembers (length requests.list) over × IsLimitOf region requests bindings over nodes document
+
+-- the members without those from one place to before another, where these were cut out, and else all
+abbrev pub AreLeft : List ℕ → ℕ → ℕ → Bool → List ℕ → Type 0
+AreLeft members from to true left = left ≡ take from members ++ drop to members
+AreLeft members from to false left = left ≡ members

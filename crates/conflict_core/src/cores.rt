@@ -32,8 +32,18 @@ fn core_of<P: Planner>(
 {
     let mut clash = clash;
     loop {
-        clash = narrow(alloc, region, requests, bindings, clash, nodes, planner)?;
-        match try_each(alloc, region, requests, bindings, &clash.members, nodes, planner)? {
+        narrow(
+            alloc, region, requests, bindings, &mut clash, nodes, planner,
+        )?;
+        match try_each(
+            alloc,
+            region,
+            requests,
+            bindings,
+            &clash.members,
+            nodes,
+            planner,
+        )? {
             Found::Plans(plans) => {
                 return Ok(CoreAnswer::Core {
                     members: clash.members,

@@ -1,7 +1,7 @@
 //! Sets that are tried, with fewer members each time.
-ghost use Rattle.std.specs.Prelude.{◌≡◌, ◌≤◌, ◌<◌, IfErr, IfOk, length};
+ghost use Rattle.std.specs.Prelude.{◌≡◌, ◌≤◌, ◌<◌, IfErr, IfOk, OnOk, length};
 ghost use Rattle.conflict_core.specs.Kept.{AreMembers};
-ghost use Rattle.conflict_core.specs.Steps.{IsClash, IsFewer, IsFound, IsStop, IsTried};
+ghost use Rattle.conflict_core.specs.Steps.{AreLeft, IsClash, IsFewer, IsFound, IsStop, IsTried};
 
 use crate::sets::{cut, solve_set};
 use crate::steps::{Clash, Found, Stop, Tried};
@@ -48,6 +48,38 @@ pub(crate) fn try_set<P: Planner>(
     }
 }
 
+/// Cuts the members from one place to before another out of a set that clashes, where the others clash still.
+fn cut_out<P: Planner>(
+    alloc: Global,
+    region: &Region,
+    requests: &Requests,
+    bindings: &Bindings,
+    clash: &mut Clash,
+    from: u32,
+    to: u32,
+    nodes: u32,
+    planner: &mut P,
+) -> Result<bool, Stop>
+    requires bound { length bindings.now.of ≡ length region.now.servers }
+    requires clash { IsClash region.now requests.now bindings.now nodes clash.old }
+    requires order { from ≤ to }
+    requires within { to ≤ length clash.old.members }
+    requires some { 1 ≤ nodes }
+    requires few { nodes ≤ 20000 }
+    ensures clash { OnOk result (IsClash region.now requests.now bindings.now nodes clash.new) }
+    ensures left { IfOk result (λ done. AreLeft clash.old.members from to done clash.new.members) }
+    ensures stop { IfErr result (IsStop region.now requests.now bindings.now nodes) }
+{
+    let fewer = cut(alloc, &clash.members, from, to)?;
+    match try_set(alloc, region, requests, bindings, fewer, nodes, planner)? {
+        Tried::Met(_) => Ok(false),
+        Tried::Clashes(found) => {
+            *clash = found;
+            Ok(true)
+        }
+    }
+}
+
 /// A place between two, and the first one where that is 0.
 fn middle_of(low: u32, high: u32) -> u32
     requires { low < high }
@@ -66,63 +98,62 @@ fn halve<P: Planner>(
     region: &Region,
     requests: &Requests,
     bindings: &Bindings,
-    clash: Clash,
+    clash: &mut Clash,
     known: u32,
     nodes: u32,
     planner: &mut P,
-) -> Result<Clash, Stop>
+) -> Result<(), Stop>
     requires bound { length bindings.now.of ≡ length region.now.servers }
-    requires clash { IsClash region.now requests.now bindings.now nodes clash }
-    requires known { known ≤ length clash.members }
+    requires clash { IsClash region.now requests.now bindings.now nodes clash.old }
+    requires known { known ≤ length clash.old.members }
     requires some { 1 ≤ nodes }
     requires few { nodes ≤ 20000 }
-    ensures fewer { IfOk result (IsFewer region.now requests.now bindings.now nodes (length clash.members)) }
+    ensures fewer { OnOk result (IsFewer region.now requests.now bindings.now nodes (length clash.old.members) clash.new) }
     ensures stop { IfErr result (IsStop region.now requests.now bindings.now nodes) }
 {
-    let mut clash = clash;
     // No reservations at all can be met, so that need not be tried.
     let mut low = if known == 0 { 1 } else { 0 };
     let mut high = clash.members.len() - known;
     while low < high {
         // The last ones may clash by themselves, which is tried first.
         let middle = middle_of(low, high);
-        let fewer = cut(alloc, &clash.members, middle, high)?;
-        match try_set(alloc, region, requests, bindings, fewer, nodes, planner)? {
-            Tried::Met(_) => low = middle + 1,
-            Tried::Clashes(found) => {
-                clash = found;
-                high = middle;
-            }
+        if cut_out(
+            alloc, region, requests, bindings, clash, middle, high, nodes, planner,
+        )? {
+            high = middle;
+        } else {
+            low = middle + 1;
         }
     }
-    Ok(clash)
+    Ok(())
 }
 
-/// Fewer members that clash: of the first ones that clash with those behind them that are known to be needed, the last one is
-/// needed too.
+/// Leaves fewer members that clash: of the first ones that clash with those behind them that are known to be needed, the last
+/// one is needed too.
 pub(crate) fn narrow<P: Planner>(
     alloc: Global,
     region: &Region,
     requests: &Requests,
     bindings: &Bindings,
-    clash: Clash,
+    clash: &mut Clash,
     nodes: u32,
     planner: &mut P,
-) -> Result<Clash, Stop>
+) -> Result<(), Stop>
     requires bound { length bindings.now.of ≡ length region.now.servers }
-    requires clash { IsClash region.now requests.now bindings.now nodes clash }
+    requires clash { IsClash region.now requests.now bindings.now nodes clash.old }
     requires some { 1 ≤ nodes }
     requires few { nodes ≤ 20000 }
-    ensures fewer { IfOk result (IsFewer region.now requests.now bindings.now nodes (length clash.members)) }
+    ensures fewer { OnOk result (IsFewer region.now requests.now bindings.now nodes (length clash.old.members) clash.new) }
     ensures stop { IfErr result (IsStop region.now requests.now bindings.now nodes) }
 {
-    let mut clash = clash;
     let mut known = 0;
     while known < clash.members.len() {
-        clash = halve(alloc, region, requests, bindings, clash, known, nodes, planner)?;
+        halve(
+            alloc, region, requests, bindings, clash, known, nodes, planner,
+        )?;
         known += 1;
     }
-    Ok(clash)
+    Ok(())
 }
 
 /// What comes of taking each member away in turn.
