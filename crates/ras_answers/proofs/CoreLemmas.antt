@@ -1,5 +1,5 @@
 -- The documents of a core, and what is printed of them.
-use Rattle.std.proofs.Common.{ℕ, ◌+◌, ◌<◌, ◌≡◌, ◌∙◌, sym, ap, ap₂, subst, refl, ◌≤◌, arith, List, [], ◌∷◌, ◌++◌, length, map, take, get_or, All, Option, Some, None, Ok, append_assoc, codes, inl, inr}
+use Rattle.std.proofs.Common.{ℕ, ◌+◌, ◌<◌, ◌≡◌, ◌∙◌, sym, ap, ap₂, ◌≤◌, subst, arith, List, [], ◌∷◌, ◌++◌, length, take, get_or, All, Option, Some, None, Ok, append_assoc, codes, inl, inr}
 use Rattle.std.specs.Prelude.{flat_map}
 use Rattle.std.specs.List.{enumerate_from, remove}
 use Rattle.std.proofs.lemmas.List.{append-nil, get_or-map, length-map, take_all, take_more}
@@ -25,7 +25,6 @@ use Rattle.conflict_core.specs.Answers.{ArePlans, IsCoreAnswer, IsDocumentOf}
 use Rattle.conflict_core.proofs.Fewer.{all-members, kept-all, members-but}
 use Rattle.ras_texts.specs.Sets.{names_line}
 use Rattle.ras_answers.specs.declared.all.CaseFiles.{CaseFiles}
-use Rattle.ras_answers.specs.declared.answer.Ending.{Ending}
 use Rattle.ras_answers.specs.Answered.{Printed}
 use Rattle.ras_answers.specs.ByCase.{ByCaseNote, CaseAnswers}
 use Rattle.ras_answers.specs.Cores.{AddsShown, CanBePrinted, CanBeShown, CoreIsChecked, HasPlanForEach, IsChecked, IsCheckedCore, IsCoreOf, IsCorePrinted, IsCoreText, IsReadAgain, Shown, core_ending, names_in, shown_of, shown_text, without_each}
