@@ -50,15 +50,3 @@ members-cut members from to count order those = record {
   rising = rises-cut members from to order those.rising;
   there = below (take from members ++ drop to members) count (all-cut (λ r. nat_lt r count) members from to order (above members count those.there));
 }
-
-drop-length : (xs : List ℕ) (n : ℕ) → n ≤ length xs → length (drop n xs) + n ≡ length xs
-drop-length xs zero within = omega arith
-drop-length [] (suc n) within = absurd (omega (arith, within))
-drop-length (x ∷ xs) (suc n) within = omega (arith, drop-length xs n (omega (arith, within)))
-
--- how many are left
-pub cut-length : (xs : List ℕ) (from to : ℕ) → from ≤ to → to ≤ length xs → length (take from xs ++ drop to xs) + to ≡ length xs + from
-cut-length xs zero to order within = omega (arith, drop-length xs to within)
-cut-length xs (suc from) zero order within = absurd (omega (arith, order))
-cut-length [] (suc from) (suc to) order within = absurd (omega (arith, within))
-cut-length (x ∷ xs) (suc from) (suc to) order within = omega (arith, cut-length xs from to (omega (arith, order)) (omega (arith, within)))

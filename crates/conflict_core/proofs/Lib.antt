@@ -6,4 +6,4 @@ pub mod Cuts
 pub mod Fewer
 pub mod Documents
 pub mod Enough
-pub mod Halving
+pub mod Trying

@@ -155,7 +155,7 @@ module _ (members : List ℕ) (case other : Case) (a : Assignment) (those : AreM
           let same : want_of other k ≡ want_of case r = want-same k there.0 ∙ ap (want_of case) is in
           ap (λ (w : Want). p.up && nat_lt 0 (slice_index w.values p.kind)) same ∙ served
 
-  inside : (n : ℕ) → n < length other.wants → n < length members
+  inside : (n : ℕ) → n < 0 + length other.wants → n < length members
   inside n within = omega (arith, many, within)
 
   pub stays : region_allowed case a ≡ true → region_allowed other after ≡ true

@@ -1,4 +1,4 @@
-use Rattle.conflict_core.proofs.Halving.{cut-are}
+use Rattle.conflict_core.proofs.Trying.{cut-are}
 use Rattle.conflict_core.proofs.tries.cut_out.Goals as goal
 
 pub try_set-requires-clause-those : goal.try_set-requires-clause-those

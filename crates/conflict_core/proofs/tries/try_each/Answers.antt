@@ -1,6 +1,6 @@
 use Rattle.std.proofs.Common.{◌+◌, arith, length}
 use Rattle.conflict_core.proofs.Documents.{after-push, one-more}
-use Rattle.conflict_core.proofs.Halving.{cut-are, met-plan}
+use Rattle.conflict_core.proofs.Trying.{cut-are, met-plan}
 use Rattle.conflict_core.proofs.tries.try_each.Goals as goal
 
 pub try_set-requires-clause-those : goal.try_set-requires-clause-those
