@@ -1,5 +1,5 @@
 -- Sets without the members from one place to before another.
-use Rattle.std.proofs.Common.{◌≡◌, ℕ, zero, suc, ◌+◌, ◌++◌, ◌<◌, ◌≤◌, Bool, true, List, [], ◌∷◌, length, get_or, take, arith, refl}
+use Rattle.std.proofs.Common.{◌≡◌, ℕ, zero, suc, ◌++◌, ◌<◌, ◌≤◌, Bool, true, List, [], ◌∷◌, get_or, take, arith, refl}
 use Rattle.std.specs.Prelude.{nat_lt, drop, All}
 use Rattle.std.specs.List.{list_all}
 use Rattle.std.proofs.lemmas.Bool.Decides.{nat_tests}

@@ -1,5 +1,5 @@
 -- With a budget that suffices it is decided whether all reservations can be met.
-use Rattle.std.proofs.Common.{◌≡◌, ℕ, ◌+◌, ◌*◌, ◌<◌, ◌≤◌, arith, sym, ◌∙◌, refl, true, false, List, length, Option, Some, None}
+use Rattle.std.proofs.Common.{◌≡◌, ℕ, ◌+◌, ◌*◌, ◌<◌, ◌≤◌, arith, sym, ◌∙◌, refl, List, length, Option, Some, None}
 use Rattle.ras_inventory.specs.declared.region.Region.{Region}
 use Rattle.ras_inventory.specs.declared.bindings.Bindings.{Bindings}
 use Rattle.ras_requests.specs.declared.all.Requests.{Requests}
@@ -10,12 +10,11 @@ use Rattle.program_rows.specs.Settings.{region_setting}
 use Rattle.plan_document.specs.declared.part.Planned.{Planned}
 use Rattle.plan_document.specs.declared.part.RackPart.{RackPart}
 use Rattle.plan_checker.specs.Solution.{IsTooFew, phase_choices}
-use Rattle.conflict_core.specs.declared.answer.CoreAnswer.{CoreAnswer}
 use Rattle.conflict_core.specs.declared.answer.CoreAnswer.TheVariants.{Core, Fits, Limit}
 use Rattle.conflict_core.specs.Kept.{AreMembers, all_members}
-use Rattle.conflict_core.specs.Cores.{CanBeMet, CannotBeMet, IsCaseOf}
+use Rattle.conflict_core.specs.Cores.{CanBeMet, CannotBeMet}
 use Rattle.conflict_core.specs.Answers.{HasSize, IsLimitOf}
-use Rattle.conflict_core.specs.Enough.{AllFit, EnoughIsDecided, FittingHasMemoryFaults, IsDecided, IsEnough}
+use Rattle.conflict_core.specs.Enough.{AllFit, EnoughIsDecided, FittingHasMemoryFaults, IsEnough}
 use Rattle.conflict_core.proofs.Documents.{can}
 use Rattle.conflict_core.proofs.Fewer.{all-members, case-of, joined-case, kept-requests, met-or-not, some-met}
 

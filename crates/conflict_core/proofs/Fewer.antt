@@ -1,5 +1,5 @@
 -- A set that can be met can be met without any one of its members.
-use Rattle.std.proofs.Common.{◌≡◌, ℕ, zero, suc, ◌+◌, ◌<◌, Bool, true, List, [], ◌∷◌, length, get_or, arith, ap, sym, ◌∙◌, refl, subst, zero-add}
+use Rattle.std.proofs.Common.{◌≡◌, ℕ, zero, suc, ◌+◌, ◌<◌, true, List, [], ◌∷◌, length, get_or, arith, ap, sym, ◌∙◌, refl, subst, zero-add}
 use Rattle.std.specs.Prelude.{map, zip, nat_lt}
 use Rattle.std.specs.List.{list_all, range_with_len, remove}
 use Rattle.std.proofs.lemmas.Bool.Decides.{nat_tests}

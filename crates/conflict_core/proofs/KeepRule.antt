@@ -1,6 +1,6 @@
 -- Requests keep their rule where only some reservations are kept.
 use Rattle.std.proofs.Common.{◌≡◌, ℕ, zero, suc, ◌<◌, ◌≤◌, Bool, true, false, List, [], ◌∷◌, length, get_or, arith, ap, sym, ◌∙◌, refl}
-use Rattle.std.specs.Prelude.{nat_le, not, ◌&&◌, ◌||◌, IsTrue}
+use Rattle.std.specs.Prelude.{nat_le, not, ◌||◌, IsTrue}
 use Rattle.std.specs.List.{list_all, list_any}
 use Rattle.std.specs.Str.{bytes_eq}
 use Rattle.std.proofs.lemmas.Bool.Decides.{nat_tests}

@@ -1,5 +1,5 @@
 -- An allowed assignment stays allowed where only some reservations are kept.
-use Rattle.std.proofs.Common.{eq-eqb, ◌≡◌, ℕ, zero, suc, ◌==◌, ◌+◌, ◌-◌, ◌<◌, Bool, true, false, cond, List, [], ◌∷◌, length, get_or, arith, ap, sym, ◌∙◌, refl}
+use Rattle.std.proofs.Common.{eq-eqb, ◌≡◌, ℕ, zero, suc, ◌==◌, ◌+◌, ◌-◌, ◌<◌, Bool, true, cond, List, [], ◌∷◌, length, get_or, arith, ap, sym, ◌∙◌, refl}
 use Rattle.std.specs.Prelude.{nat_lt, nat_le, ◌&&◌, Some, None, Option, sum_by, zip, map, filter, slice_index}
 use Rattle.std.specs.Option.{option_map_or}
 use Rattle.std.specs.List.{list_all, range_with_len}

@@ -1,4 +1,4 @@
-use Rattle.std.proofs.Common.{ℕ, ◌≤◌, ◌-◌, length}
+use Rattle.std.proofs.Common.{◌≤◌, ◌-◌, length}
 use Rattle.conflict_core.specs.Steps.{IsFewer}
 use Rattle.conflict_core.proofs.tries.halve.Given as goal
 
