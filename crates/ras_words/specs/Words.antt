@@ -7,6 +7,7 @@ use Rattle.ras_words.specs.declared.command.CheckWords.{CheckWords}
 use Rattle.ras_words.specs.declared.command.SolveWords.{SolveWords}
 use Rattle.ras_words.specs.declared.command.MoveWords.{MoveWords}
 use Rattle.ras_words.specs.declared.command.SpareWords.{SpareWords}
+use Rattle.ras_words.specs.declared.command.CoreWords.{CoreWords}
 use Rattle.ras_words.specs.declared.command.SampleWords.{SampleWords}
 use Rattle.ras_words.specs.declared.command.Command.{Command}
 use Rattle.ras_words.specs.declared.command.Command.TheVariants as command
@@ -75,6 +76,19 @@ spare_words rows = record {
   failures = value_of (codes "FAILURES") rows;
 }
 
+-- `core INVENTORY REQUESTS BINDINGS [--nodes N]`
+abbrev pub core_app : App
+core_app = with_rule (files_app (codes "core")) (numbered (codes "nodes") 1 20000)
+
+-- the words of `core`
+abbrev pub core_words : List Row → CoreWords
+core_words rows = record {
+  inventory = value_of (codes "INVENTORY") rows;
+  requests = value_of (codes "REQUESTS") rows;
+  bindings = value_of (codes "BINDINGS") rows;
+  nodes = number_in (codes "nodes") 1 20000 100 rows;
+}
+
 -- `sample NUMBER SIZE`
 abbrev pub sample_app : App
 sample_app = with_rule (with_rule (new_app (codes "sample")) (needed_number (codes "NUMBER") 0 65536)) (needed_number (codes "SIZE") 2 40)
@@ -90,6 +104,7 @@ named name words =
     else if bytes_eq name (codes "solve") then with_rows (λ rows. command.Solve (solve_words rows)) (rows_read solve_app words)
     else if bytes_eq name (codes "move") then with_rows (λ rows. command.Move (move_words rows)) (rows_read move_app words)
     else if bytes_eq name (codes "spare") then with_rows (λ rows. command.Spare (spare_words rows)) (rows_read spare_app words)
+    else if bytes_eq name (codes "core") then with_rows (λ rows. command.Core (core_words rows)) (rows_read core_app words)
     else if bytes_eq name (codes "sample") then with_rows (λ rows. command.Sample (sample_words rows)) (rows_read sample_app words)
     else Err NoCommand
 
@@ -105,4 +120,5 @@ InRanges (command.Check words) = ⊤
 InRanges (command.Solve words) = (words.gap ≤ 1000000000000) × (1 ≤ words.nodes) × (words.nodes ≤ 20000) × (words.racks ≤ 64)
 InRanges (command.Move words) = (1 ≤ words.at_once) × (words.at_once ≤ 64)
 InRanges (command.Spare words) = ⊤
+InRanges (command.Core words) = (1 ≤ words.nodes) × (words.nodes ≤ 20000)
 InRanges (command.Sample words) = (words.number ≤ 65536) × (2 ≤ words.size) × (words.size ≤ 40)

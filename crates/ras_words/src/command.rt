@@ -46,6 +46,16 @@ pub struct SpareWords {
     pub failures: Word,
 }
 
+/// The files that `core` reads, and its option.
+#[derive(Debug, Drop)]
+pub struct CoreWords {
+    pub inventory: Word,
+    pub requests: Word,
+    pub bindings: Word,
+    /// The most nodes of each document's tree, 1 to 20,000.
+    pub nodes: u32,
+}
+
 /// The numbers of `sample`.
 #[derive(Clone, Copy, Debug)]
 pub struct SampleWords {
@@ -62,6 +72,7 @@ pub enum Command {
     Solve(SolveWords),
     Move(MoveWords),
     Spare(SpareWords),
+    Core(CoreWords),
     Sample(SampleWords),
 }
 

@@ -3,6 +3,7 @@
 
 mod check;
 mod command;
+mod cores;
 mod matches;
 mod moves;
 mod read;
@@ -11,6 +12,6 @@ mod solve;
 mod spare;
 
 pub use command::{
-    CheckWords, Command, MoveWords, SampleWords, SolveWords, SpareWords, WordsFault,
+    CheckWords, Command, CoreWords, MoveWords, SampleWords, SolveWords, SpareWords, WordsFault,
 };
 pub use read::read_words;

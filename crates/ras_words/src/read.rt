@@ -5,6 +5,7 @@ ghost use Rattle.ras_words.specs.Words.{InRanges, command_of, named};
 
 use crate::check::read_check;
 use crate::command::{Command, WordsFault};
+use crate::cores::read_core;
 use crate::moves::read_move;
 use crate::sample::read_sample;
 use crate::solve::read_solve;
@@ -25,6 +26,8 @@ fn read_named(alloc: Global, name: &str, words: &[Word]) -> Result<Command, Word
         Ok(Command::Move(read_move(alloc, words)?))
     } else if name == "spare" {
         Ok(Command::Spare(read_spare(alloc, words)?))
+    } else if name == "core" {
+        Ok(Command::Core(read_core(alloc, words)?))
     } else if name == "sample" {
         Ok(Command::Sample(read_sample(alloc, words)?))
     } else {

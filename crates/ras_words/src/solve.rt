@@ -20,7 +20,8 @@ fn gap_option<'a>(alloc: Global) -> Arg<'a>
         .value_parser(clap::value_parser!(u64).range(0..=1_000_000_000_000))
 }
 
-fn nodes_option<'a>(alloc: Global) -> Arg<'a>
+/// The most nodes of a tree.
+pub(crate) fn nodes_option<'a>(alloc: Global) -> Arg<'a>
     ensures rule { rule_of result ≡ numbered (codes "nodes") 1 20000 }
     ensures local { result.global ≡ false }
 {
