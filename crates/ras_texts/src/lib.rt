@@ -5,6 +5,7 @@ mod names;
 mod notes;
 mod reasons;
 mod samples;
+mod sets;
 mod verdicts;
 
 pub use notes::{
@@ -12,4 +13,5 @@ pub use notes::{
     requests_note, rows_note,
 };
 pub use samples::sample_text;
+pub use sets::put_line;
 pub use verdicts::verdict_text;
