@@ -1,7 +1,9 @@
 pub mod CheckLemmas
 pub mod InputLemmas
+pub mod CaseLemmas
 pub mod JoinLemmas
 pub mod ShapeLemmas
 pub mod TargetLemmas
 pub mod SolveLemmas
+pub mod CoreLemmas
 pub mod SampleLemmas

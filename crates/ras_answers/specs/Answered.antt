@@ -19,5 +19,6 @@ seen (answer.Invalid note) = Invalid (string_bytes note)
 abbrev pub code_of : Ending → ℕ
 code_of ending.Done = 0
 code_of ending.NotAccepted = 1
+code_of ending.Fits = 1
 code_of ending.Infeasible = 4
 code_of ending.Limit = 5

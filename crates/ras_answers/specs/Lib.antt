@@ -1,8 +1,10 @@
 pub mod Answered
 pub mod Check
 pub mod Inputs
+pub mod ByCase
 pub mod Target
 pub mod Move
 pub mod Spare
 pub mod Sample
 pub mod Solve
+pub mod Cores

@@ -22,8 +22,8 @@ use Rattle.ras_answers.specs.declared.answer.Ending.{Ending}
 use Rattle.ras_answers.specs.declared.answer.Ending.TheVariants as ending
 use Rattle.ras_answers.specs.declared.solving.Options.{Options}
 use Rattle.ras_answers.specs.Answered.{Answered, Printed, Invalid}
+use Rattle.ras_answers.specs.ByCase.{CaseAnswers}
 use Rattle.ras_answers.specs.Check.{CheckAnswers}
-use Rattle.ras_answers.specs.Inputs.{AreCaseFiles, case_read, note_in}
 
 -- how a run ends that prints a document with such an answer
 abbrev pub ending_at : Answer → Ending
@@ -67,19 +67,9 @@ pub record IsSolveOf (files : CaseFiles) (options : Options) (a : Answered) : Ty
   pub joined : IsJoined files.region files.requests files.bindings case
   pub solves : SolvesBy files options case (region_size case) a
 
-pub record IsSolveOn (inventory requests bindings : List ℕ) (options : Options) (a : Answered) : Type 0 where
-  pub files : CaseFiles
-  pub read : AreCaseFiles inventory requests bindings files
-  pub solves : IsSolveOf files options a
-
--- the note on the first file that is not valid, and where all are valid by their case
-abbrev pub SolvesWith : List ℕ → List ℕ → List ℕ → Options → Option (List ℕ) → Answered → Type 0
-SolvesWith inventory requests bindings options (Some note) a = a ≡ Invalid note
-SolvesWith inventory requests bindings options None a = IsSolveOn inventory requests bindings options a
-
 -- what `solve` answers to the bytes of an inventory, requests and bindings
-unfoldable pub SolveAnswers : List ℕ → List ℕ → List ℕ → Options → Answered → Type 0
-SolveAnswers inventory requests bindings options a = SolvesWith inventory requests bindings options (note_in (case_read inventory requests bindings)) a
+abbrev pub SolveAnswers : List ℕ → List ℕ → List ℕ → Options → Answered → Type 0
+SolveAnswers inventory requests bindings options a = CaseAnswers (λ files. IsSolveOf files options) inventory requests bindings a
 
 -- where the document of a solution is printed, `check` says yes to the text over the same files
 abbrev pub SolvedIsChecked : Type 0

@@ -7,6 +7,8 @@ pub enum Ending {
     Done,
     /// The document is not accepted, or has no assignment to move servers to.
     NotAccepted,
+    /// All reservations can be met, where those that clash were asked for.
+    Fits,
     /// No assignment is allowed.
     Infeasible,
     /// The budget is spent.
@@ -22,7 +24,7 @@ impl Ending {
     {
         match self {
             Ending::Done => 0,
-            Ending::NotAccepted => 1,
+            Ending::NotAccepted | Ending::Fits => 1,
             Ending::Infeasible => 4,
             Ending::Limit => 5,
         }

@@ -4,6 +4,7 @@
 mod all;
 mod answer;
 mod check;
+mod cores;
 mod inputs;
 mod laws;
 mod moves;
@@ -15,8 +16,9 @@ mod targets;
 pub use all::{CaseFiles, Inputs};
 pub use answer::{Answer, Ending};
 pub use check::{check_answer, read_inputs};
+pub use cores::core_answer;
 pub use inputs::InputFault;
-pub use laws::solved_is_checked;
+pub use laws::{core_is_checked, solved_is_checked};
 pub use moves::move_answer;
 pub use sampling::sample_answer;
 pub use solving::{Options, solve_answer};

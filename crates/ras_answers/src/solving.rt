@@ -37,8 +37,8 @@ pub(crate) fn ending_at(answer: plan_document::Answer) -> Ending
     }
 }
 
-// The note on a program that is too large.
-fn too_large(alloc: Global, fault: SizeFault) -> Result<Answer, AllocError>
+/// The note on a program that is too large.
+pub(crate) fn too_large(alloc: Global, fault: SizeFault) -> Result<Answer, AllocError>
     ensures { IfOk result (λ answer. size_answer fault ≡ Some (seen answer)) }
 {
     let mut note = match fault {

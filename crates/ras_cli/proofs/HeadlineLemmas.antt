@@ -48,4 +48,5 @@ at-zero held (command.Check words) answered at zero =
 at-zero held (command.Solve words) answered at zero = tt
 at-zero held (command.Move words) answered at zero = tt
 at-zero held (command.Spare words) answered at zero = tt
+at-zero held (command.Core words) answered at zero = tt
 at-zero held (command.Sample words) answered at zero = tt

@@ -14,6 +14,7 @@ use Rattle.ras_cli.specs.Runs.{AtAnswer, is_printed, status_of}
 code_known : (e : Ending) → code_of e ≡ 3 → ⊥
 code_known ending.Done h = omega arith
 code_known ending.NotAccepted h = omega arith
+code_known ending.Fits h = omega arith
 code_known ending.Infeasible h = omega arith
 code_known ending.Limit h = omega arith
 
@@ -32,6 +33,7 @@ text_alone (command.Check words) texts a none is three = cc
 text_alone (command.Solve words) texts a none is three = cc
 text_alone (command.Move words) texts a none is three = cc
 text_alone (command.Spare words) texts a none is three = cc
+text_alone (command.Core words) texts a none is three = cc
 
 not_other : (status other : ℕ) → (is_printed status ≡ true) ⊎ (status ≡ 3) ⊎ (status ≡ 7) → is_printed other ≡ false → (other ≡ 3 → ⊥) → (other ≡ 7 → ⊥) → status ≡ other → ⊥
 not_other status other known unprinted three seven is = elim known [

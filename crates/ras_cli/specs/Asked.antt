@@ -9,6 +9,7 @@ use Rattle.ras_words.specs.declared.command.Command.{Command}
 use Rattle.ras_words.specs.declared.command.Command.TheVariants as command
 use Rattle.ras_answers.specs.Answered.{Answered}
 use Rattle.ras_answers.specs.Check.{CheckAnswers}
+use Rattle.ras_answers.specs.Cores.{CoreAnswers}
 use Rattle.ras_answers.specs.Move.{MoveAnswers}
 use Rattle.ras_answers.specs.Sample.{SampleAnswers}
 use Rattle.ras_answers.specs.Solve.{SolveAnswers}
@@ -31,6 +32,7 @@ files_of (command.Move words) =
     (words.inventory, 16777216) ∷ (words.requests, 16777216) ∷ (words.bindings, 16777216) ∷ (words.plan, 67108864) ∷ (words.events, 16777216) ∷ []
 files_of (command.Spare words) =
     (words.inventory, 16777216) ∷ (words.requests, 16777216) ∷ (words.bindings, 16777216) ∷ (words.plan, 67108864) ∷ (words.failures, 16777216) ∷ []
+files_of (command.Core words) = (words.inventory, 16777216) ∷ (words.requests, 16777216) ∷ (words.bindings, 16777216) ∷ []
 files_of (command.Sample words) = []
 
 -- the files of what is asked for, and none where the words are not taken
@@ -48,6 +50,7 @@ Answers (command.Check words) (inventory ∷ requests ∷ bindings ∷ plan ∷ 
 Answers (command.Solve words) (inventory ∷ requests ∷ bindings ∷ []) a = SolveAnswers inventory requests bindings (options_of words) a
 Answers (command.Move words) (inventory ∷ requests ∷ bindings ∷ plan ∷ events ∷ []) a = MoveAnswers inventory requests bindings plan events words.at_once a
 Answers (command.Spare words) (inventory ∷ requests ∷ bindings ∷ plan ∷ failures ∷ []) a = SpareAnswers inventory requests bindings plan failures a
+Answers (command.Core words) (inventory ∷ requests ∷ bindings ∷ []) a = CoreAnswers inventory requests bindings words.nodes a
 Answers (command.Sample words) [] a = SampleAnswers words.number words.size a
 Answers c texts a = ⊥
 

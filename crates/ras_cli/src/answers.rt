@@ -2,6 +2,7 @@ ghost use Rattle.std.specs.Prelude.{◌≡◌, ◌≤◌, ◌*◌, ◌^◌, All,
 ghost use Rattle.ras_words.specs.Words.{InRanges};
 ghost use Rattle.ras_answers.specs.Answered.{seen};
 ghost use Rattle.ras_answers.specs.Check.{CheckAnswers};
+ghost use Rattle.ras_answers.specs.Cores.{CoreAnswers};
 ghost use Rattle.ras_answers.specs.Move.{MoveAnswers};
 ghost use Rattle.ras_answers.specs.Sample.{SampleAnswers};
 ghost use Rattle.ras_answers.specs.Solve.{SolveAnswers};
@@ -9,7 +10,8 @@ ghost use Rattle.ras_answers.specs.Spare.{SpareAnswers};
 ghost use Rattle.ras_cli.specs.Asked.{Answers, files_of, options_of};
 
 use ras_answers::{
-    Answer, Options, check_answer, move_answer, sample_answer, solve_answer, spare_answer,
+    Answer, Options, check_answer, core_answer, move_answer, sample_answer, solve_answer,
+    spare_answer,
 };
 use ras_words::{Command, SolveWords};
 use std::alloc::{AllocError, Global};
@@ -63,6 +65,13 @@ pub fn answer_of(alloc: Global, command: &Command, files: &[Vec<u8>]) -> Result<
             files[2].as_slice(),
             files[3].as_slice(),
             files[4].as_slice(),
+        ),
+        Command::Core(words) => core_answer(
+            alloc,
+            files[0].as_slice(),
+            files[1].as_slice(),
+            files[2].as_slice(),
+            words.nodes,
         ),
         Command::Sample(words) => sample_answer(alloc, words.number, words.size),
     }

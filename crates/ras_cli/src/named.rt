@@ -65,6 +65,11 @@ pub fn named_files<'a>(alloc: Global, command: &'a Command) -> Result<Vec<Named<
             plan(&words.plan),
             file(&words.failures),
         ]?),
+        Command::Core(words) => Ok(vec![in alloc;
+            file(&words.inventory),
+            file(&words.requests),
+            file(&words.bindings),
+        ]?),
         Command::Sample(_) => Ok(Vec::new(alloc)),
     }
 }

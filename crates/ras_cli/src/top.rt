@@ -109,11 +109,11 @@ fn run_command<S: Shelf, K: Sink, E: Sink>(
 ///
 /// | Status | Comes |
 /// |---|---|
-/// | 0 | the command did what was asked, and its text is printed; for `solve` the document of a plan, whose gaps are at most the wanted one; for `sample` the lines of such a document, the wanted gap being 0 |
-/// | 1 | `check`, `move`, `spare`: the files are valid and the document is not accepted; the reason is printed. `move`, `spare`: the document is accepted and has no assignment; `no target` is printed |
+/// | 0 | the command did what was asked, and its text is printed; for `solve` the document of a plan, whose gaps are at most the wanted one; for `core` the members of a core, the document that says that they can't be met, and for each member one with an assignment for the others; for `sample` the lines of a document as of `solve`, the wanted gap being 0 |
+/// | 1 | `check`, `move`, `spare`: the files are valid and the document is not accepted; the reason is printed. `move`, `spare`: the document is accepted and has no assignment; `no target` is printed. `core`: all reservations can be met; a document with an assignment for them is printed |
 /// | 2 | the words are not taken; a text for the user is on `note` |
-/// | 3 | a file is not valid; its first fault is on `note`. `solve`: the program of the region is too large; its size is on `note` |
-/// | 4, 5 | `solve`, `sample`: no assignment is allowed; the budget is spent. `solve` prints the document that shows it, `sample` its lines |
+/// | 3 | a file is not valid; its first fault is on `note`. `solve`: the program of the region is too large; its size is on `note`. `core`: the program of some set of the reservations is; its size is on `note` |
+/// | 4, 5 | `solve`, `sample`: no assignment is allowed; the budget is spent. `solve` prints the document that shows it, `sample` its lines. `core`: the budget is spent on a set of reservations before an assignment for it was found; its names and its document are printed |
 /// | 6, 7, 8 | a read failed; a write failed, and a front of the text went out; a file is too long |
 /// | 9 | memory ran out |
 ///
