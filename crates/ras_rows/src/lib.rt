@@ -1,4 +1,4 @@
-//! Worked examples of `ras check`, `ras solve` and `ras sample` over files in memory: the status, the text and the note of each run.
+//! Worked examples of `ras check`, `ras solve`, `ras core` and `ras sample` over files in memory: the status, the text and the note of each run.
 #![tactic(auto)]
 
 #[cfg(test)]
@@ -7,6 +7,8 @@ mod bounds;
 mod budgets;
 #[cfg(test)]
 mod certificates;
+#[cfg(test)]
+mod cores;
 #[cfg(test)]
 mod costs;
 #[cfg(test)]

@@ -1,6 +1,7 @@
 //! Regions that are made by loops.
+use crate::cores::CORE;
 use crate::documents::{SIX, UNBOUND, requests};
-use crate::runs::{Failing, Texts, ran, solve};
+use crate::runs::{Failing, NOTHING, Texts, ran, solve, told_by};
 use crate::solving::SOLVE;
 use std::alloc::{AllocError, Global};
 use std::test::Fail;
@@ -114,11 +115,11 @@ fn idle_reservations(alloc: Global, count: u32) -> Result<String, AllocError> {
 #[test]
 fn too_many_columns_or_rows(rt: HostRuntime) -> Result<(), Fail> {
     let cases = [
-        (33, "3|ras: program: columns 2176\n|"),
-        (31, "3|ras: program: rows 2143\n|"),
+        (33, "ras: program: columns 2176\n"),
+        (31, "ras: program: rows 2143\n"),
     ];
     let inventory = inventory(rt.alloc(), 64, 64)?;
-    for (count, want) in cases {
+    for (count, note) in cases {
         let reservations = idle_reservations(rt.alloc(), count)?;
         let requests = requests(rt.alloc(), 1, reservations.as_str())?;
         let texts = Texts {
@@ -127,9 +128,11 @@ fn too_many_columns_or_rows(rt: HostRuntime) -> Result<(), Fail> {
             bindings: UNBOUND,
             plan: "",
         };
-        let found = solve(rt.alloc(), SOLVE.as_slice(), texts)?;
-        assert!(rt; found.told.starts_with(want), "{count}: {}", found.told);
-        assert!(rt; found.document.is_empty());
+        let want = format!(in rt.alloc(); "3||{note}")?;
+        for line in [SOLVE.as_slice(), CORE.as_slice()] {
+            let found = told_by(rt.alloc(), line, texts, NOTHING)?;
+            assert!(rt; found == want, "{count}: {found}");
+        }
     }
     Ok(())
 }
