@@ -1,4 +1,4 @@
-//! Ten thousand events over 240 servers, each of them twice, and after each the protections against sums from scratch.
+//! Ten thousand events over the region of 240 servers, each of them twice, and after each the protections against sums from scratch.
 ghost use Rattle.std.specs.Prelude.{◌≡◌, ◌<◌, IfOk, length};
 
 use crate::machine::{case_of, mover_of, step};
@@ -11,9 +11,9 @@ use std::test::Fail;
 const REQUESTS: &str = concat!(
     r#"{"format":1,"moves":{"take":1,"idle":5,"busy":50},"reservations":["#,
     r#"{"name":"web","need":550,"values":{"compute":10}},"#,
-    r#"{"name":"store","need":396,"values":{"storage":12}},"#,
+    r#"{"name":"store","need":396,"values":{"storage":12},"rack_limit":24,"rack_weight":1},"#,
     r#"{"name":"db","need":440,"values":{"flash":20}},"#,
-    r#"{"name":"ads","need":80,"values":{"compute":8}},"#,
+    r#"{"name":"ads","need":80,"values":{"compute":8},"spread_limit":8,"spread_weight":1},"#,
     r#"{"name":"batch","need":50,"values":{"compute":5,"storage":3}},"#,
     r#"{"name":"cache","need":150,"values":{"flash":15,"compute":4}}]}"#,
 );
@@ -37,7 +37,8 @@ fn holder_of(rack: u32, place: u32) -> &'static str {
     }
 }
 
-// Twelve switchboards of four racks of five servers: a line for each server, of the inventory or of the bindings.
+// Twelve switchboards of four racks of five servers: a line for each server, of the inventory or of the bindings. Of the held servers the
+// first of each rack is busy.
 fn tables(alloc: Global) -> Result<(String, String), AllocError> {
     let mut inventory = String::from_str(alloc, "server,type,rack,switchboard,datacenter\n")?;
     let mut bindings = String::from_str(alloc, "server,reservation,busy,up\n")?;
@@ -45,10 +46,12 @@ fn tables(alloc: Global) -> Result<(String, String), AllocError> {
         let (board, rack, place) = (number / 20, number / 5 % 4, number % 5);
         let center = if board < 6 { "east" } else { "west" };
         let kind = type_of(rack);
-        let line = format!(in alloc; "h{number},{kind},r{board}q{rack},m{board},{center}\n")?;
+        let name = format!(in alloc; "h{board}q{rack}n{place}")?;
+        let line = format!(in alloc; "{name},{kind},r{board}q{rack},m{board},{center}\n")?;
         inventory.push_str(line.as_str())?;
         let holder = holder_of(rack, place);
-        let line = format!(in alloc; "h{number},{holder},0,1\n")?;
+        let busy = u32::from(place == 0 && !holder.is_empty());
+        let line = format!(in alloc; "{name},{holder},{busy},1\n")?;
         bindings.push_str(line.as_str())?;
     }
     Ok((inventory, bindings))
