@@ -41,7 +41,7 @@ pub enum RowKind {
     ClassLeast,
     /// The units of a reservation reach its need.
     Total,
-    /// The units of a reservation that are left after one loss reach its need.
+    /// The units of a reservation without one switchboard reach its need.
     Loss,
     /// The share is at least the units on one switchboard.
     LargestShare,
