@@ -1,24 +1,20 @@
 //! A region whose relaxations have numbers that fit no certificate, and one whose first plan is not steady.
-ghost use Rattle.std.specs.Prelude.{◌≡◌, ◌<◌, ◌≤◌, IfOk, IsTrue};
+ghost use Rattle.std.specs.Prelude.{◌<◌, ◌≤◌, IsTrue};
 ghost use Rattle.plan_model.specs.Allowed.{region_allowed};
-ghost use Rattle.plan_model.specs.declared.cases.Grouping.TheVariants.{Class};
-ghost use Rattle.program_rows.specs.Settings.{phase_classes, setting_of};
-ghost use Rattle.program_rows.specs.declared.phases.Phase.TheVariants.{Region};
 
 use crate::reading::read;
 use class_expand::settle;
+use first_plans::first_plan;
 use ip_model::Program;
-use plan_checker::{Verdict, check};
+use plan_checker::{Verdict, check, phase_classes};
 use plan_document::{Answer, Document};
 use plan_model::{Assignment, Case, Grouping, join, region_cost};
 use plan_solver::solve;
-use program_rows::{Phase, SizeFault, build, movables};
+use program_rows::{Phase, SizeFault, build};
 use ras_inventory::{read_bindings, read_region};
 use ras_requests::read_requests;
-use region_phase::first_plan;
 use std::alloc::{AllocError, Global};
 use std::test::Fail;
-use symmetry_classes::{Classes, group};
 
 // More bytes than a test puts in one file.
 const LONGEST: usize = 10_000_000;
@@ -94,17 +90,9 @@ fn accepted(alloc: Global, case: &Case, nodes: u32) -> Result<Document, Fail>
     }
 }
 
-// The classes of the servers of a case.
-fn classes_of(alloc: Global, case: &Case) -> Result<Classes, AllocError>
-    ensures { IfOk result (λ classes. classes.list ≡ phase_classes case.now (setting_of case.now Region) Class) }
-{
-    let flags = movables(alloc, case, &Phase::Region)?;
-    group(alloc, case, &flags, false, Grouping::Class)
-}
-
 // The program of a case's region over its classes.
 fn program_of(alloc: Global, case: &Case) -> Result<Program, SizeFault> {
-    let classes = classes_of(alloc, case)?;
+    let classes = phase_classes(alloc, case, &Phase::Region, Grouping::Class)?;
     build(alloc, case, &classes, &Phase::Region)
 }
 
