@@ -104,6 +104,11 @@ impl Mover {
         self.counting.keeps_need(r)
     }
 
+    /// Every mover keeps the rule of a state. This changes nothing.
+    pub fn keeps_rule(&self)
+        ensures { IsTrue (state_rule self.now) }
+    {}
+
     /// How many servers are in flight.
     fn in_flight(&self) -> u32
         ensures count { result ≡ in_flight_of self.now }
