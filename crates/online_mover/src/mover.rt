@@ -107,7 +107,10 @@ impl Mover {
     /// Every mover keeps the rule of a state. This changes nothing.
     pub fn keeps_rule(&self)
         ensures { IsTrue (state_rule self.now) }
-    {}
+    {
+        // A mover that is read shows its rule.
+        let _at_once = self.at_once;
+    }
 
     /// How many servers are in flight.
     fn in_flight(&self) -> u32
