@@ -25,9 +25,11 @@ const IN_PAIRS: &str = concat!(
     "s1,t,k1,m1,d1\ns2,t,k2,m1,d1\ns3,t,k3,m2,d1\ns4,t,k4,m2,d1\n",
 );
 
-const NEEDS_ONE: &str = r#"{"format":1,"moves":{"take":2,"idle":5,"busy":50},"reservations":[{"name":"a","need":1,"values":{"t":1}}]}"#;
+const NEEDS_ONE: &str =
+    r#"{"format":1,"moves":{"take":2,"idle":5,"busy":50},"reservations":[{"name":"a","need":1,"values":{"t":1}}]}"#;
 
-const NEEDS_NONE: &str = r#"{"format":1,"moves":{"take":2,"idle":5,"busy":50},"reservations":[{"name":"a","need":0,"values":{"t":1}}]}"#;
+const NEEDS_NONE: &str =
+    r#"{"format":1,"moves":{"take":2,"idle":5,"busy":50},"reservations":[{"name":"a","need":0,"values":{"t":1}}]}"#;
 
 const ALL_FREE: &str = "server,reservation,busy,up\n";
 
@@ -188,16 +190,14 @@ fn what_is_not_done_is_as_before(rt: HostRuntime) -> Result<(), Fail> {
     let second = [None, Some(0), None];
     carried(rt.alloc(), &mut case, &mut table, &second, &[Event::Tick])?;
     let found = told(rt.alloc(), &case, &table)?;
-    assert_eq!(
-        rt;
+    assert_eq!(rt;
         found.as_str(),
         "0 held 0 busy: 0\n1 free idle: 1\n2 free idle: 2\n"
     );
     let done = [Event::Tick, Event::Drained(0), Event::Joined(1)];
     carried(rt.alloc(), &mut case, &mut table, &second, &done)?;
     let found = told(rt.alloc(), &case, &table)?;
-    assert_eq!(
-        rt;
+    assert_eq!(rt;
         found.as_str(),
         "0 free idle: 0\n1 held 0 idle: 1\n2 free idle: 2\n"
     );
@@ -212,8 +212,7 @@ fn classes_part_and_join(rt: HostRuntime) -> Result<(), Fail> {
     let joined = [Event::Tick, Event::Joined(1)];
     carried(rt.alloc(), &mut case, &mut table, &second, &joined)?;
     let found = told(rt.alloc(), &case, &table)?;
-    assert_eq!(
-        rt;
+    assert_eq!(rt;
         found.as_str(),
         "0 free idle: 0\n0 held 0 idle: 1\n1 free idle: 2 3\n"
     );
