@@ -18,7 +18,7 @@ fn planned_of(plan: &Option<Planned>) -> Option<&Assignment>
 }
 
 /// Where the servers are to be: as the racks' part of the document says, or else the region's.
-pub(crate) fn target_of(document: &Document) -> Option<&Assignment>
+pub fn target_of(document: &Document) -> Option<&Assignment>
     ensures { option_map (λ a. a.now) result ≡ target_of document.now }
 {
     let of_racks = match &document.rack {

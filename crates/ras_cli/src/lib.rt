@@ -9,4 +9,7 @@ mod note;
 mod output;
 mod top;
 
+pub use deliver::deliver;
+pub use files::{Named, read_files};
+pub use note::{tell, tell_fault};
 pub use top::run;

@@ -1,0 +1,16 @@
+//! The picture of a plan: one page with the verdict, the reservations and the map of the servers.
+#![tactic(auto)]
+
+mod bars;
+mod escape;
+mod laws;
+mod page;
+mod ranks;
+mod spots;
+mod squares;
+mod tally;
+
+pub use escape::put_escaped;
+pub use laws::escaped_is_plain;
+pub use page::page;
+pub use spots::{Spots, spots_of};
