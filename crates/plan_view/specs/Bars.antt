@@ -27,13 +27,22 @@ tally_of case a r = record { need = (want_of case r).need; has = units case a r;
 abbrev pub long : ℕ → ℕ → ℕ
 long most n = 400 * n / most
 
--- the bars of a tally, in the colour of reservation r, and a mark at the need
+-- a bar in the colour of reservation r, and a mark
+abbrev pub bar : ℕ → ℕ → ℕ → List ℕ
+bar r y width = codes "<rect class=\"c" ++ (decimal r ++ (codes "\" y=\"" ++ (decimal y ++ (codes "\" width=\"" ++ (decimal width ++ codes "\" height=\"10\"/>")))))
+
+abbrev pub mark : ℕ → List ℕ
+mark x = codes "<rect x=\"" ++ (decimal x ++ codes "\" width=\"2\" height=\"22\"/>")
+
+-- the longest bar of a tally
+abbrev pub longest : Tally → ℕ
+longest tally = max 1 (max tally.need tally.has)
+
+-- a bar of what reservation r has, one of what it has left, and a mark at the need
 abbrev pub bars : ℕ → Tally → List ℕ
 bars r tally =
-    let most = max 1 (max tally.need tally.has) in
-    codes "<svg width=\"402\" height=\"22\"><rect class=\"c" ++ (decimal r ++ (codes "\" width=\"" ++ (decimal (long most tally.has)
-    ++ (codes "\" height=\"10\"/><rect class=\"c" ++ (decimal r ++ (codes "\" y=\"12\" width=\"" ++ (decimal (long most tally.left)
-    ++ (codes "\" height=\"10\"/><rect x=\"" ++ (decimal (long most tally.need) ++ codes "\" width=\"2\" height=\"22\"/></svg>\n")))))))))
+    codes "<svg width=\"402\" height=\"22\">" ++ (bar r 0 (long (longest tally) tally.has) ++ (bar r 12 (long (longest tally) tally.left)
+    ++ (mark (long (longest tally) tally.need) ++ codes "</svg>\n")))
 
 -- the numbers of a tally
 abbrev pub numbers : Tally → List ℕ

@@ -3,3 +3,4 @@ pub mod Spots
 pub mod Squares
 pub mod Bars
 pub mod Pages
+pub mod Views

@@ -33,7 +33,7 @@ said inputs verdict =
 abbrev pub body : Inputs → Case → List ℕ
 body inputs case =
     codes "<h2>Reservations</h2>\n" ++ (reservations_text inputs.files.requests case (target_of inputs.document)
-    ++ (codes "<h2>Switchboards</h2>\n" ++ (map_text inputs.files.region inputs.files.requests case (target_of inputs.document) (spots_of case)
+    ++ (codes "<h2>Switchboards</h2>\n" ++ (map_text inputs.files case (target_of inputs.document) (spots_of case)
     ++ codes "</body></html>\n")))
 
 -- the page of a document, by the case of its files and the verdict on it

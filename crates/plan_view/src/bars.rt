@@ -1,8 +1,9 @@
 //! The reservations, each with bars of what it has and what it has left.
-ghost use Rattle.std.specs.Prelude.{◌≡◌, ◌++◌, ◌<◌, ◌≤◌, IfSome, IsTrue, OnOk, flat_map, length, option_map};
+ghost use Rattle.std.specs.Prelude.{◌≡◌, ◌++◌, ◌<◌, ◌≤◌, IfSome, IsTrue, OnOk, flat_map, length};
+ghost use Rattle.std.specs.Option.{option_copied};
 ghost use Rattle.plan_model.specs.Allowed.{fits};
 ghost use Rattle.plan_model.specs.Units.{all_reservations};
-ghost use Rattle.plan_view.specs.Bars.{bars, long, numbers, reservation_text, reservations_text};
+ghost use Rattle.plan_view.specs.Bars.{bar, bars, long, longest, mark, numbers, reservation_text, reservations_text};
 
 use crate::escape::{put_escaped, put_number};
 use crate::tally::{Tally, tally_of};
@@ -20,25 +21,49 @@ fn long(most: u64, number: u64) -> u64
     400 * number / most
 }
 
-// Adds the bars of a tally, in the colour of reservation r.
+// Adds a bar in the colour of reservation r.
+fn put_bar(text: &mut Vec<u8>, r: u32, y: u64, width: u64) -> Result<(), AllocError>
+    ensures { OnOk result (text.new.items ≡ text.old.items ++ bar r y width) }
+{
+    text.extend_from_slice(b"<rect class=\"c")?;
+    put_number(text, u64::from(r))?;
+    text.extend_from_slice(b"\" y=\"")?;
+    put_number(text, y)?;
+    text.extend_from_slice(b"\" width=\"")?;
+    put_number(text, width)?;
+    text.extend_from_slice(b"\" height=\"10\"/>")
+}
+
+// Adds a mark.
+fn put_mark(text: &mut Vec<u8>, x: u64) -> Result<(), AllocError>
+    ensures { OnOk result (text.new.items ≡ text.old.items ++ mark x) }
+{
+    text.extend_from_slice(b"<rect x=\"")?;
+    put_number(text, x)?;
+    text.extend_from_slice(b"\" width=\"2\" height=\"22\"/>")
+}
+
+// The longest bar of a tally.
+fn longest(tally: Tally) -> u64
+    ensures longest { result ≡ longest tally }
+    ensures some { 0 < result }
+{
+    1.max(tally.need.max(tally.has))
+}
+
+// Adds the bars of a tally, in the colour of reservation r, and a mark at its need.
 fn put_bars(text: &mut Vec<u8>, r: u32, tally: Tally) -> Result<(), AllocError>
     requires few { tally.has ≤ 20000000 }
     requires small { tally.need ≤ 10000000 }
     requires within { tally.left ≤ tally.has }
     ensures { OnOk result (text.new.items ≡ text.old.items ++ bars r tally) }
 {
-    let most = 1.max(tally.need.max(tally.has));
-    text.extend_from_slice(b"<svg width=\"402\" height=\"22\"><rect class=\"c")?;
-    put_number(text, u64::from(r))?;
-    text.extend_from_slice(b"\" width=\"")?;
-    put_number(text, long(most, tally.has))?;
-    text.extend_from_slice(b"\" height=\"10\"/><rect class=\"c")?;
-    put_number(text, u64::from(r))?;
-    text.extend_from_slice(b"\" y=\"12\" width=\"")?;
-    put_number(text, long(most, tally.left))?;
-    text.extend_from_slice(b"\" height=\"10\"/><rect x=\"")?;
-    put_number(text, long(most, tally.need))?;
-    text.extend_from_slice(b"\" width=\"2\" height=\"22\"/></svg>\n")
+    let most = longest(tally);
+    text.extend_from_slice(b"<svg width=\"402\" height=\"22\">")?;
+    put_bar(text, r, 0, long(most, tally.has))?;
+    put_bar(text, r, 12, long(most, tally.left))?;
+    put_mark(text, long(most, tally.need))?;
+    text.extend_from_slice(b"</svg>\n")
 }
 
 // Adds the numbers of a tally.
@@ -97,8 +122,8 @@ pub(crate) fn put_reservations(
     case: &Case,
     plan: Option<&Assignment>,
 ) -> Result<(), AllocError>
-    requires { IfSome (option_map (λ a. a.now) plan) (λ a. IsTrue (fits case.now a)) }
-    ensures { OnOk result (text.new.items ≡ text.old.items ++ reservations_text requests.now case.now (option_map (λ a. a.now) plan)) }
+    requires { IfSome (option_copied plan) (λ a. IsTrue (fits case.now a)) }
+    ensures { OnOk result (text.new.items ≡ text.old.items ++ reservations_text requests.now case.now (option_copied plan)) }
 {
     match plan {
         None => text.extend_from_slice(

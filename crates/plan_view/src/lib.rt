@@ -9,8 +9,10 @@ mod ranks;
 mod spots;
 mod squares;
 mod tally;
+mod views;
 
 pub use escape::put_escaped;
 pub use laws::escaped_is_plain;
 pub use page::page;
 pub use spots::{Spots, spots_of};
+pub use views::view_answer;

@@ -86,14 +86,7 @@ fn put_body(
     text.extend_from_slice(b"<h2>Reservations</h2>\n")?;
     put_reservations(text, &inputs.files.requests, case, plan)?;
     text.extend_from_slice(b"<h2>Switchboards</h2>\n")?;
-    put_map(
-        text,
-        &inputs.files.region,
-        &inputs.files.requests,
-        case,
-        plan,
-        &spots,
-    )?;
+    put_map(text, &inputs.files, case, plan, &spots)?;
     text.extend_from_slice(b"</body></html>\n")
 }
 

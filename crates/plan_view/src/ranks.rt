@@ -1,22 +1,22 @@
 //! How many of those before each have the same key.
-ghost use Rattle.std.specs.Prelude.{◌≡◌, ◌<◌, ◌^◌, All, IfOk, length};
+ghost use Rattle.std.specs.Prelude.{◌≡◌, ◌<◌, All, IfOk};
 ghost use Rattle.plan_view.specs.Spots.{ranks};
 
 use ras_table::List;
 use std::alloc::{AllocError, Global};
 
 /// For each key how many of the keys before it are the same, where each is below `most`.
-pub(crate) fn ranks(alloc: Global, keys: &[u32], most: u32) -> Result<List<u32>, AllocError>
-    requires below { All (λ k. k < most) keys.now }
-    requires few { length keys.now < 2 ^ 32 }
+pub(crate) fn ranks(alloc: Global, keys: &List<u32>, most: u32) -> Result<List<u32>, AllocError>
+    requires { All (λ k. k < most) keys.now }
     ensures { IfOk result (λ found. found ≡ ranks keys.now) }
 {
-    let mut seen = vec![in alloc; 0u32; most as usize]?;
+    let mut seen = List::from_vec(vec![in alloc; 0u32; most as usize]?);
     let mut found = Vec::new(alloc);
+    let keys = keys.as_slice();
     for key in keys {
-        let before = seen[*key as usize];
+        let before = seen.as_slice()[*key as usize];
         found.push(before)?;
-        seen[*key as usize] = before + 1;
+        seen.set(*key, before + 1);
     }
     Ok(List::from_vec(found))
 }

@@ -1,5 +1,5 @@
 //! Where the square of each server stands.
-ghost use Rattle.std.specs.Prelude.{◌≡◌, ◌<◌, ◌^◌, All, IfOk, length};
+ghost use Rattle.std.specs.Prelude.{◌≡◌, ◌<◌, All, IfOk};
 ghost use Rattle.plan_view.specs.Spots.{boards_of, racks_of, spots_of};
 
 use crate::ranks::ranks;
@@ -17,27 +17,27 @@ pub struct Spots {
 }
 
 // The rack of each server.
-fn racks_of(alloc: Global, case: &Case) -> Result<Vec<u32>, AllocError>
-    ensures racks { IfOk result (λ racks. racks.items ≡ racks_of case.now.places) }
-    ensures below { IfOk result (λ racks. All (λ k. k < case.now.racks) racks.items) }
-    ensures few { IfOk result (λ racks. length racks.items < 2 ^ 32) }
+fn racks_of(alloc: Global, case: &Case) -> Result<List<u32>, AllocError>
+    ensures racks { IfOk result (λ racks. racks ≡ racks_of case.now.places) }
+    ensures below { IfOk result (λ racks. All (λ k. k < case.now.racks) racks) }
 {
+    let places = case.places.as_slice();
     let mut racks = Vec::new(alloc);
-    for place in case.places.as_slice() {
+    for place in places {
         racks.push(place.rack)?;
     }
-    Ok(racks)
+    Ok(List::from_vec(racks))
 }
 
 // The switchboard of each rack.
-fn boards_of(alloc: Global, case: &Case) -> Result<Vec<u32>, AllocError>
-    ensures boards { IfOk result (λ boards. boards.items ≡ boards_of case.now.places case.now.racks) }
-    ensures below { IfOk result (λ boards. All (λ k. k < 64) boards.items) }
-    ensures few { IfOk result (λ boards. length boards.items < 2 ^ 32) }
+fn boards_of(alloc: Global, case: &Case) -> Result<List<u32>, AllocError>
+    ensures boards { IfOk result (λ boards. boards ≡ boards_of case.now.places case.now.racks) }
+    ensures below { IfOk result (λ boards. All (λ k. k < 64) boards) }
 {
-    let mut boards = vec![in alloc; 0u32; case.racks as usize]?;
-    for place in case.places.as_slice() {
-        boards[place.rack as usize] = place.board;
+    let places = case.places.as_slice();
+    let mut boards = List::from_vec(vec![in alloc; 0u32; case.racks as usize]?);
+    for place in places {
+        boards.set(place.rack, place.board);
     }
     Ok(boards)
 }
@@ -48,8 +48,7 @@ pub fn spots_of(alloc: Global, case: &Case) -> Result<Spots, AllocError>
 {
     let boards = boards_of(alloc, case)?;
     let racks = racks_of(alloc, case)?;
-    Ok(Spots {
-        columns: ranks(alloc, boards.as_slice(), 64)?,
-        rows: ranks(alloc, racks.as_slice(), case.racks)?,
-    })
+    let columns = ranks(alloc, &boards, 64)?;
+    let rows = ranks(alloc, &racks, case.racks)?;
+    Ok(Spots { columns, rows })
 }

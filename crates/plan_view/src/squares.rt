@@ -1,13 +1,13 @@
 //! The map of the servers.
-ghost use Rattle.std.specs.Prelude.{◌≡◌, ◌++◌, ◌<◌, ◌^◌, ◌*◌, ◌+◌, IfSome, IsTrue, None, OnOk, Some, length, option_map, slice_index};
-ghost use Rattle.plan_model.specs.Allowed.{fits};
+ghost use Rattle.std.specs.Prelude.{◌≡◌, ◌++◌, OnOk, slice_index};
+ghost use Rattle.std.specs.Option.{option_copied};
 ghost use Rattle.plan_model.specs.Costs.{greatest};
 ghost use Rattle.plan_view.specs.Squares.{board_text, colour, corner, gets, gets_text, held_by, holder_text, map_text, marks, moves, room, square, square_on, squares, title};
 
 use crate::escape::{put_escaped, put_number};
 use crate::spots::Spots;
 use plan_model::{Assignment, Case, Holder, Place};
-use ras_inventory::Region;
+use ras_answers::CaseFiles;
 use ras_requests::Requests;
 use ras_table::List;
 use ras_texts::{board_name, rack_name, reservation_name, server_name};
@@ -25,10 +25,10 @@ fn held_by(holder: Holder) -> Option<u32>
 
 // The reservation that a server gets: what the plan says, and who holds it where there is no plan.
 fn gets(plan: Option<&Assignment>, i: u32, place: &Place) -> Option<u32>
-    ensures { result ≡ gets (option_map (λ a. a.now) plan) i place.now }
+    ensures { result ≡ gets (option_copied plan) i place.now }
 {
     match plan {
-        Some(plan) => plan.of.get(i).copied().flatten(),
+        Some(plan) => plan.of.as_slice().get(i as usize).copied().unwrap_or(None),
         None => held_by(place.holder),
     }
 }
@@ -93,22 +93,21 @@ fn put_gets(text: &mut Vec<u8>, requests: &Requests, to: Option<u32>) -> Result<
 // Adds what is told of a server.
 fn put_title(
     text: &mut Vec<u8>,
-    region: &Region,
-    requests: &Requests,
+    files: &CaseFiles,
     i: u32,
     place: &Place,
     to: Option<u32>,
 ) -> Result<(), AllocError>
-    ensures { OnOk result (text.new.items ≡ text.old.items ++ title region.now requests.now i place.now to) }
+    ensures { OnOk result (text.new.items ≡ text.old.items ++ title files.now i place.now to) }
 {
     text.extend_from_slice(b"<title>")?;
-    put_escaped(text, server_name(region, i).as_bytes())?;
+    put_escaped(text, server_name(&files.region, i).as_bytes())?;
     text.extend_from_slice(b" in ")?;
-    put_escaped(text, rack_name(region, place.rack).as_bytes())?;
+    put_escaped(text, rack_name(&files.region, place.rack).as_bytes())?;
     text.extend_from_slice(b": now ")?;
-    put_holder(text, requests, place.holder)?;
+    put_holder(text, &files.requests, place.holder)?;
     text.extend_from_slice(b", planned ")?;
-    put_gets(text, requests, to)?;
+    put_gets(text, &files.requests, to)?;
     text.extend_from_slice(b"</title>")
 }
 
@@ -116,7 +115,7 @@ fn put_title(
 fn number_at(list: &List<u32>, i: u32) -> u32
     ensures { result ≡ slice_index list.now i }
 {
-    list.get(i).copied().unwrap_or(0)
+    list.as_slice().get(i as usize).copied().unwrap_or(0)
 }
 
 // Adds where a square stands.
@@ -133,41 +132,56 @@ fn put_corner(text: &mut Vec<u8>, spots: &Spots, i: u32, place: &Place) -> Resul
 // Adds the square of a server.
 fn put_square(
     text: &mut Vec<u8>,
-    region: &Region,
-    requests: &Requests,
+    files: &CaseFiles,
     spots: &Spots,
     i: u32,
     place: &Place,
     to: Option<u32>,
 ) -> Result<(), AllocError>
-    ensures { OnOk result (text.new.items ≡ text.old.items ++ square region.now requests.now spots.now i place.now to) }
+    ensures { OnOk result (text.new.items ≡ text.old.items ++ square files.now spots.now i place.now to) }
 {
     text.extend_from_slice(b"<rect class=\"")?;
     put_colour(text, to)?;
     text.extend_from_slice(marks(place, to).as_bytes())?;
     put_corner(text, spots, i, place)?;
-    put_title(text, region, requests, i, place, to)?;
+    put_title(text, files, i, place, to)?;
     text.extend_from_slice(b"</rect>\n")
+}
+
+// Adds the square of a server, where it is on the switchboard.
+fn put_square_on(
+    text: &mut Vec<u8>,
+    files: &CaseFiles,
+    spots: &Spots,
+    board: u32,
+    i: u32,
+    place: &Place,
+    to: Option<u32>,
+) -> Result<(), AllocError>
+    ensures { OnOk result (text.new.items ≡ text.old.items ++ square_on files.now spots.now board i place.now to) }
+{
+    if place.board == board {
+        put_square(text, files, spots, i, place, to)
+    } else {
+        Ok(())
+    }
 }
 
 // Adds the squares of the servers of a switchboard.
 fn put_squares(
     text: &mut Vec<u8>,
-    region: &Region,
-    requests: &Requests,
+    files: &CaseFiles,
     case: &Case,
     plan: Option<&Assignment>,
     spots: &Spots,
     board: u32,
 ) -> Result<(), AllocError>
-    ensures { OnOk result (text.new.items ≡ text.old.items ++ squares region.now requests.now case.now (option_map (λ a. a.now) plan) spots.now board) }
+    ensures { OnOk result (text.new.items ≡ text.old.items ++ squares files.now case.now (option_copied plan) spots.now board) }
 {
     let places = case.places.as_slice();
     for (i, place) in places.iter().enumerate() {
-        if place.board == board {
-            let to = gets(plan, i as u32, place);
-            put_square(text, region, requests, spots, i as u32, place, to)?;
-        }
+        let to = gets(plan, i as u32, place);
+        put_square_on(text, files, spots, board, i as u32, place, to)?;
     }
     Ok(())
 }
@@ -197,36 +211,34 @@ fn put_room(text: &mut Vec<u8>, spots: &Spots) -> Result<(), AllocError>
 // Adds a switchboard.
 fn put_board(
     text: &mut Vec<u8>,
-    region: &Region,
-    requests: &Requests,
+    files: &CaseFiles,
     case: &Case,
     plan: Option<&Assignment>,
     spots: &Spots,
     board: u32,
 ) -> Result<(), AllocError>
-    ensures { OnOk result (text.new.items ≡ text.old.items ++ board_text region.now requests.now case.now (option_map (λ a. a.now) plan) spots.now board) }
+    ensures { OnOk result (text.new.items ≡ text.old.items ++ board_text files.now case.now (option_copied plan) spots.now board) }
 {
     text.extend_from_slice(b"<h3>")?;
-    put_escaped(text, board_name(region, board).as_bytes())?;
+    put_escaped(text, board_name(&files.region, board).as_bytes())?;
     text.extend_from_slice(b"</h3>\n")?;
     put_room(text, spots)?;
-    put_squares(text, region, requests, case, plan, spots, board)?;
+    put_squares(text, files, case, plan, spots, board)?;
     text.extend_from_slice(b"</svg>\n")
 }
 
 /// Adds the map: a row of racks for each switchboard, and a square for each server.
 pub(crate) fn put_map(
     text: &mut Vec<u8>,
-    region: &Region,
-    requests: &Requests,
+    files: &CaseFiles,
     case: &Case,
     plan: Option<&Assignment>,
     spots: &Spots,
 ) -> Result<(), AllocError>
-    ensures { OnOk result (text.new.items ≡ text.old.items ++ map_text region.now requests.now case.now (option_map (λ a. a.now) plan) spots.now) }
+    ensures { OnOk result (text.new.items ≡ text.old.items ++ map_text files.now case.now (option_copied plan) spots.now) }
 {
     for board in 0..case.boards {
-        put_board(text, region, requests, case, plan, spots, board)?;
+        put_board(text, files, case, plan, spots, board)?;
     }
     Ok(())
 }
