@@ -4,7 +4,7 @@
 mod bars;
 mod escape;
 mod laws;
-mod page;
+mod pages;
 mod ranks;
 mod spots;
 mod squares;
@@ -13,6 +13,6 @@ mod views;
 
 pub use escape::put_escaped;
 pub use laws::escaped_is_plain;
-pub use page::page;
+pub use pages::page;
 pub use spots::{Spots, spots_of};
 pub use views::view_answer;

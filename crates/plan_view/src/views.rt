@@ -7,7 +7,7 @@ ghost use Rattle.ras_answers.specs.Answered.{seen};
 ghost use Rattle.ras_answers.specs.Check.{ending_of};
 ghost use Rattle.plan_view.specs.Views.{IsPageOn, ViewAnswers};
 
-use crate::page::page;
+use crate::pages::page;
 use plan_checker::Verdict;
 use ras_answers::{Answer, Ending, InputFault, Inputs, judge, read_inputs};
 use std::alloc::{AllocError, Global};

@@ -4,3 +4,4 @@ pub mod PutsLemmas
 pub mod ReadLemmas
 pub mod ReadsLemmas
 pub mod RunLemmas
+pub mod WordLemmas
