@@ -1,5 +1,5 @@
 //! The reservations, each with bars of what it has and what it has left.
-ghost use Rattle.std.specs.Prelude.{◌≡◌, ◌++◌, ◌<◌, ◌≤◌, IfSome, IsTrue, OnOk, flat_map, length};
+ghost use Rattle.std.specs.Prelude.{◌≡◌, ◌++◌, ◌<◌, ◌≤◌, ◌^◌, IfSome, IsTrue, OnOk, flat_map, length};
 ghost use Rattle.std.specs.Option.{option_copied};
 ghost use Rattle.plan_model.specs.Allowed.{fits};
 ghost use Rattle.plan_model.specs.Units.{all_reservations};
@@ -15,7 +15,7 @@ use std::alloc::AllocError;
 // The length of a bar of a number.
 fn long(most: u64, number: u64) -> u64
     requires some { 0 < most }
-    requires small { number ≤ 20000000 }
+    requires small { number < 2 ^ 32 }
     ensures { result ≡ long most number }
 {
     400 * number / most
@@ -48,13 +48,12 @@ fn longest(tally: Tally) -> u64
     ensures longest { result ≡ longest tally }
     ensures some { 0 < result }
 {
-    1.max(tally.need.max(tally.has))
+    1.max(u64::from(tally.need).max(tally.has))
 }
 
 // Adds the bars of a tally, in the colour of reservation r, and a mark at its need.
 fn put_bars(text: &mut Vec<u8>, r: u32, tally: Tally) -> Result<(), AllocError>
     requires few { tally.has ≤ 20000000 }
-    requires small { tally.need ≤ 10000000 }
     requires within { tally.left ≤ tally.has }
     ensures { OnOk result (text.new.items ≡ text.old.items ++ bars r tally) }
 {
@@ -62,7 +61,7 @@ fn put_bars(text: &mut Vec<u8>, r: u32, tally: Tally) -> Result<(), AllocError>
     text.extend_from_slice(b"<svg width=\"402\" height=\"22\">")?;
     put_bar(text, r, 0, long(most, tally.has))?;
     put_bar(text, r, 12, long(most, tally.left))?;
-    put_mark(text, long(most, tally.need))?;
+    put_mark(text, long(most, u64::from(tally.need)))?;
     text.extend_from_slice(b"</svg>\n")
 }
 
@@ -71,7 +70,7 @@ fn put_numbers(text: &mut Vec<u8>, tally: Tally) -> Result<(), AllocError>
     ensures { OnOk result (text.new.items ≡ text.old.items ++ numbers tally) }
 {
     text.extend_from_slice(b"<p>need ")?;
-    put_number(text, tally.need)?;
+    put_number(text, u64::from(tally.need))?;
     text.extend_from_slice(b", units ")?;
     put_number(text, tally.has)?;
     text.extend_from_slice(b", after the worst loss ")?;
@@ -99,6 +98,7 @@ fn put_reservation(
     put_bars(text, r, tally)
 }
 
+#[tactic(auto, using(crate::proofs::TextLemmas::text_more))]
 // Adds each reservation by an assignment.
 fn put_each(
     text: &mut Vec<u8>,

@@ -1,9 +1,16 @@
 //! How many of those before each have the same key.
-ghost use Rattle.std.specs.Prelude.{◌≡◌, ◌<◌, All, IfOk};
+ghost use Rattle.std.specs.Prelude.{◌≡◌, ◌<◌, All, IfOk, slice_index};
 ghost use Rattle.plan_view.specs.Spots.{ranks};
 
 use ras_table::List;
 use std::alloc::{AllocError, Global};
+
+/// The number at a place of a list, and 0 where there is none.
+pub(crate) fn number_at(list: &List<u32>, i: u32) -> u32
+    ensures { result ≡ slice_index list.now i }
+{
+    list.as_slice().get(i as usize).copied().unwrap_or(0)
+}
 
 /// For each key how many of the keys before it are the same, where each is below `most`.
 pub(crate) fn ranks(alloc: Global, keys: &List<u32>, most: u32) -> Result<List<u32>, AllocError>
@@ -14,7 +21,7 @@ pub(crate) fn ranks(alloc: Global, keys: &List<u32>, most: u32) -> Result<List<u
     let mut found = Vec::new(alloc);
     let keys = keys.as_slice();
     for key in keys {
-        let before = seen.as_slice()[*key as usize];
+        let before = number_at(&seen, *key);
         found.push(before)?;
         seen.set(*key, before + 1);
     }

@@ -1,10 +1,11 @@
 //! The map of the servers.
-ghost use Rattle.std.specs.Prelude.{◌≡◌, ◌++◌, OnOk, slice_index};
+ghost use Rattle.std.specs.Prelude.{◌≡◌, ◌++◌, OnOk};
 ghost use Rattle.std.specs.Option.{option_copied};
 ghost use Rattle.plan_model.specs.Costs.{greatest};
 ghost use Rattle.plan_view.specs.Squares.{board_text, colour, corner, gets, gets_text, held_by, holder_text, map_text, marks, moves, room, square, square_on, squares, title};
 
 use crate::escape::{put_escaped, put_number};
+use crate::ranks::number_at;
 use crate::spots::Spots;
 use plan_model::{Assignment, Case, Holder, Place};
 use ras_answers::CaseFiles;
@@ -111,13 +112,6 @@ fn put_title(
     text.extend_from_slice(b"</title>")
 }
 
-// The number at a place of a list, and 0 where there is none.
-fn number_at(list: &List<u32>, i: u32) -> u32
-    ensures { result ≡ slice_index list.now i }
-{
-    list.as_slice().get(i as usize).copied().unwrap_or(0)
-}
-
 // Adds where a square stands.
 fn put_corner(text: &mut Vec<u8>, spots: &Spots, i: u32, place: &Place) -> Result<(), AllocError>
     ensures { OnOk result (text.new.items ≡ text.old.items ++ corner spots.now i place.now) }
@@ -167,6 +161,7 @@ fn put_square_on(
     }
 }
 
+#[tactic(auto, using(crate::proofs::TextLemmas::text_more))]
 // Adds the squares of the servers of a switchboard.
 fn put_squares(
     text: &mut Vec<u8>,
@@ -227,6 +222,7 @@ fn put_board(
     text.extend_from_slice(b"</svg>\n")
 }
 
+#[tactic(auto, using(crate::proofs::TextLemmas::text_more))]
 /// Adds the map: a row of racks for each switchboard, and a square for each server.
 pub(crate) fn put_map(
     text: &mut Vec<u8>,

@@ -5,13 +5,13 @@ ghost use Rattle.plan_model.specs.Losses.{is_lost, loss_at, losses_named as loss
 ghost use Rattle.plan_model.specs.Units.{units as units_of, units_where, want_of};
 ghost use Rattle.plan_view.specs.Bars.{least_left, tally_of};
 
-use plan_model::{Assignment, Case, losses_named, units, units_in_center, units_on_board};
+use plan_model::{Assignment, Case, Want, losses_named, units, units_in_center, units_on_board};
 use ras_requests::Protection;
 
 /// What a reservation needs and has, and what it has left after the worst loss, in units.
 #[derive(Clone, Copy, Debug)]
 pub struct Tally {
-    pub need: u64,
+    pub need: u32,
     pub has: u64,
     pub left: u64,
 }
@@ -31,6 +31,15 @@ fn lost_at(case: &Case, a: &Assignment, r: u32, protection: Protection, number: 
     }
 }
 
+// The reservation of that number.
+fn want_at(case: &Case, r: u32) -> &Want
+    requires { r < length case.now.wants }
+    ensures { result.now ≡ want_of case.now r }
+{
+    &case.wants.as_slice()[r as usize]
+}
+
+#[tactic(auto, using(crate::proofs::TextLemmas::least_more))]
 // What reservation r has left after the worst loss that a protection names.
 fn least_left(case: &Case, a: &Assignment, r: u32, protection: Protection, has: u64) -> u64
     requires fitting { IsTrue (fits case.now a.now) }
@@ -53,15 +62,14 @@ pub(crate) fn tally_of(case: &Case, a: &Assignment, r: u32) -> Tally
     requires in_range { r < length case.now.wants }
     ensures tally { result ≡ tally_of case.now a.now r }
     ensures few { result.has ≤ 20000000 }
-    ensures small { result.need ≤ 10000000 }
     ensures within { result.left ≤ result.has }
 {
-    let wants = case.wants.as_slice();
-    let want = &wants[r as usize];
+    let want = want_at(case, r);
     let has = units(case, a, r);
+    let left = least_left(case, a, r, want.protection, has);
     Tally {
-        need: u64::from(want.need),
+        need: want.need,
         has,
-        left: least_left(case, a, r, want.protection, has),
+        left,
     }
 }
