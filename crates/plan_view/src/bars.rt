@@ -98,8 +98,8 @@ fn put_reservation(
     put_bars(text, r, tally)
 }
 
-#[tactic(auto, using(crate::proofs::TextLemmas::text_more))]
 // Adds each reservation by an assignment.
+#[tactic(auto, using(crate::proofs::TextLemmas::text_more))]
 fn put_each(
     text: &mut Vec<u8>,
     requests: &Requests,

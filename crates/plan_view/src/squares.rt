@@ -161,8 +161,8 @@ fn put_square_on(
     }
 }
 
-#[tactic(auto, using(crate::proofs::TextLemmas::text_more))]
 // Adds the squares of the servers of a switchboard.
+#[tactic(auto, using(crate::proofs::TextLemmas::text_more))]
 fn put_squares(
     text: &mut Vec<u8>,
     files: &CaseFiles,
@@ -222,8 +222,8 @@ fn put_board(
     text.extend_from_slice(b"</svg>\n")
 }
 
-#[tactic(auto, using(crate::proofs::TextLemmas::text_more))]
 /// Adds the map: a row of racks for each switchboard, and a square for each server.
+#[tactic(auto, using(crate::proofs::TextLemmas::text_more))]
 pub(crate) fn put_map(
     text: &mut Vec<u8>,
     files: &CaseFiles,

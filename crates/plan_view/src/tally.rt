@@ -39,8 +39,8 @@ fn want_at(case: &Case, r: u32) -> &Want
     &case.wants.as_slice()[r as usize]
 }
 
-#[tactic(auto, using(crate::proofs::TextLemmas::least_more))]
 // What reservation r has left after the worst loss that a protection names.
+#[tactic(auto, using(crate::proofs::TextLemmas::least_more))]
 fn least_left(case: &Case, a: &Assignment, r: u32, protection: Protection, has: u64) -> u64
     requires fitting { IsTrue (fits case.now a.now) }
     requires in_range { r < length case.now.wants }
