@@ -1,8 +1,8 @@
 -- Counts of keys, one key on.
-use Rattle.std.proofs.Common.{ℕ, ◌≡◌, ◌∙◌, ◌+◌, ◌<◌, ◌≤◌, ◌==◌, ap, sym, subst, arith, List, take, set, get_or, length, get_or-set_same, get_or-set_other}
+use Rattle.std.proofs.Common.{ℕ, ◌≡◌, ◌∙◌, ◌+◌, ◌<◌, ◌≤◌, ◌==◌, ap, sym, subst, arith, List, take, set, replicate, get_or, length, get_or-set_same, get_or-set_other}
 use Rattle.std.specs.Prelude.{count_by}
-use Rattle.std.proofs.lemmas.Bool.{cases_eq, eq-eqb, ne_eqb}
-use Rattle.std.proofs.lemmas.List.{length-take}
+use Rattle.std.proofs.lemmas.Bool.{cases_eq, cases_lt, eq-eqb, ne_eqb}
+use Rattle.std.proofs.lemmas.List.{get_or-replicate, get_or_past, length-replicate, length-take}
 use Rattle.std.proofs.lemmas.List.Sums.{count_by_more_yes, count_by_more_no, count_by-le-length}
 
 -- after key i is counted, each key's count is that among the first i + 1
@@ -25,3 +25,11 @@ seen-more seen keys i key k within is there counts below =
 -- a count is at most how many there are
 pub few-before : (keys : List ℕ) (i k : ℕ) → i < length keys → count_by (λ x. x == k) (take i keys) ≤ i
 few-before keys i k within = omega (arith, count_by-le-length (λ x. x == k) (take i keys), length-take i keys)
+
+-- each number of a list of zeros is 0, and so is one past its end
+pub zeros : (n k : ℕ) → get_or (replicate n 0) k 0 ≡ 0
+zeros n k =
+    elim (cases_lt k n) [
+      | inl within ↦ get_or-replicate n k 0 0 within
+      | inr past ↦ get_or_past (replicate n 0) k 0 (omega (arith, length-replicate n 0))
+    ]

@@ -8,8 +8,10 @@ use Rattle.std.proofs.lemmas.List.Sums.{fold_push}
 use Rattle.plan_model.proofs.NumberLemmas.{range_more}
 
 -- the text of one more number
-pub text_more : (f : ℕ → List ℕ) (before : List ℕ) (n : ℕ) → (before ++ flat_map f (range_with_len 0 n)) ++ f n ≡ before ++ flat_map f (range_with_len 0 (n + 1))
-text_more f before n = flat_map_more f before (range_with_len 0 n) n ∙ ap (λ xs. before ++ flat_map f xs) (sym (range_more n))
+pub text-more : (f : ℕ → List ℕ) (n : ℕ) (before text grown : List ℕ) → text ≡ before ++ flat_map f (range_with_len 0 n) → grown ≡ text ++ f n
+    → grown ≡ before ++ flat_map f (range_with_len 0 (n + 1))
+text-more f n before text grown was now =
+    now ∙ (ap (λ xs. xs ++ f n) was ∙ (flat_map_more f before (range_with_len 0 n) n ∙ ap (λ xs. before ++ flat_map f xs) (sym (range_more n))))
 
 -- the least of one more number
 pub least_more : {X : Type 0} (f : X → ℕ) (g : ℕ → X) (a n : ℕ) → fold min a (map f (map g (range_with_len 0 (n + 1)))) ≡ min (fold min a (map f (map g (range_with_len 0 n)))) (f (g n))

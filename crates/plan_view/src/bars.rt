@@ -99,7 +99,6 @@ fn put_reservation(
 }
 
 // Adds each reservation by an assignment.
-#[tactic(auto, using(crate::proofs::TextLemmas::text_more))]
 fn put_each(
     text: &mut Vec<u8>,
     requests: &Requests,

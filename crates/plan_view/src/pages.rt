@@ -30,7 +30,6 @@ fn put_colour_rule(text: &mut Vec<u8>, r: u32) -> Result<(), AllocError>
 }
 
 // Adds the colours of the reservations.
-#[tactic(auto, using(crate::proofs::TextLemmas::text_more))]
 fn put_colours(text: &mut Vec<u8>, case: &Case) -> Result<(), AllocError>
     ensures { OnOk result (text.new.items ≡ text.old.items ++ colours case.now) }
 {

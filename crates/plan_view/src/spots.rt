@@ -2,7 +2,7 @@
 ghost use Rattle.std.specs.Prelude.{◌≡◌, ◌<◌, All, IfOk};
 ghost use Rattle.plan_view.specs.Spots.{boards_of, racks_of, spots_of};
 
-use crate::ranks::ranks;
+use crate::ranks::{ranks, zeros};
 use plan_model::Case;
 use ras_table::List;
 use std::alloc::{AllocError, Global};
@@ -35,7 +35,7 @@ fn boards_of(alloc: Global, case: &Case) -> Result<List<u32>, AllocError>
     ensures below { IfOk result (λ boards. All (λ k. k < 64) boards) }
 {
     let places = case.places.as_slice();
-    let mut boards = List::from_vec(vec![in alloc; 0u32; case.racks as usize]?);
+    let mut boards = zeros(alloc, case.racks)?;
     for place in places {
         boards.set(place.rack, place.board);
     }

@@ -162,7 +162,6 @@ fn put_square_on(
 }
 
 // Adds the squares of the servers of a switchboard.
-#[tactic(auto, using(crate::proofs::TextLemmas::text_more))]
 fn put_squares(
     text: &mut Vec<u8>,
     files: &CaseFiles,
@@ -223,7 +222,6 @@ fn put_board(
 }
 
 /// Adds the map: a row of racks for each switchboard, and a square for each server.
-#[tactic(auto, using(crate::proofs::TextLemmas::text_more))]
 pub(crate) fn put_map(
     text: &mut Vec<u8>,
     files: &CaseFiles,
