@@ -15,7 +15,7 @@ mod targets;
 
 pub use all::{CaseFiles, Inputs};
 pub use answer::{Answer, Ending};
-pub use check::{check_answer, read_inputs};
+pub use check::{Judged, check_answer, judge, read_inputs};
 pub use cores::core_answer;
 pub use inputs::InputFault;
 pub use laws::{core_is_checked, solved_is_checked};

@@ -5,3 +5,4 @@ pub mod ReadLemmas
 pub mod ReadsLemmas
 pub mod RoundLemmas
 pub mod RunLemmas
+pub mod WordLemmas
