@@ -1,8 +1,8 @@
 use Rattle.std.proofs.Common.{ℕ, ◌≡◌, ◌∙◌, ◌+◌, ◌<◌, ◌++◌, ap, arith, refl, sym, List, [], ◌∷◌, get_or, length, set, map}
 use Rattle.std.proofs.lemmas.List.{length-set, take_all}
 use Rattle.std.specs.List.{range_with_len}
-use Rattle.std.proofs.lemmas.List.FromFn.{map-range_with_len_more}
-use Rattle.plan_view.specs.Spots.{rank}
+use Rattle.std.proofs.lemmas.List.FromFn.{length-map-range_with_len, map-range_with_len_more}
+use Rattle.plan_view.specs.Spots.{rank, ranks}
 use Rattle.plan_view.proofs.RankLemmas.{few-before, seen-more}
 use Rattle.plan_view.proofs.ranks.ranks.Goals as goal
 
@@ -46,3 +46,14 @@ loop-key-preserved c =
           ∙ seen-more c.loop-key.seen keys i (get_or keys i 0) k within refl there c.loop-key.invariant.1 (omega (arith, kept, small))),
       omega (arith, kept, c.loop-key.invariant.2),
     )
+
+pub from_vec-requires : goal.from_vec-requires
+from_vec-requires c =
+    let many = ap (λ (l : List ℕ). length l) c.loop-key.invariant.0 ∙ length-map-range_with_len (rank c.as_slice-keys.result.now) 0 c.loop-key.key-index in
+    omega (arith, many, c.as_slice-keys.ensures.few)
+
+pub returns : goal.returns
+returns c =
+    let keys = c.as_slice-keys.result.now in
+    let done : c.loop-key.key-index ≡ length keys = omega arith in
+    c.from_vec.ensures ∙ (c.loop-key.invariant.0 ∙ (ap (λ n. map (rank keys) (range_with_len 0 n)) done ∙ ap ranks c.as_slice-keys.ensures.items))
