@@ -1,7 +1,6 @@
-use Rattle.std.proofs.Common.{◌≡◌, List, length, arith, ap, ◌∙◌}
-use Rattle.symmetry_classes.specs.declared.groups.Class.{Class as Group}
+use Rattle.std.proofs.Common.{◌≡◌, length, arith, ap, ◌∙◌}
 use Rattle.ras_rounds.specs.Rounds.{region_classes}
-use Rattle.ras_rounds.specs.Mends.{changed_flags, joiners_of, is_touched}
+use Rattle.ras_rounds.specs.Mends.{changed_flags, joiners_of}
 use Rattle.ras_rounds.proofs.CarryFacts.{IsReady, after-long, mended-table, region-few}
 use Rattle.ras_rounds.proofs.table.Table.carry.Goals as goal
 
