@@ -1,0 +1,6 @@
+pub mod Targets
+pub mod Scripts
+pub mod Rounds
+pub mod Runs
+pub mod Ready
+pub mod Laws

@@ -1,0 +1,13 @@
+-- The rounds of a script, and the events of each.
+use Rattle.std.specs.Prelude.{ℕ, ◌-◌, ◌==◌, List, length, filter, map, slice_get}
+use Rattle.std.specs.Option.{option_map_or}
+use Rattle.online_mover.specs.declared.timed.Timed.{Timed}
+use Rattle.ras_rounds.specs.declared.entries.Entry.{Entry}
+
+-- the events of a round, in the order of the script; each comes at the number of the round
+abbrev pub events_of : ℕ → List Entry → List Timed
+events_of number entries = map (λ entry. record { at = number; event = entry.event }) (filter (λ entry. entry.round == number) entries)
+
+-- how many rounds there are: the number of the last record, and one where there is no record
+abbrev pub rounds_of : List Entry → ℕ
+rounds_of entries = option_map_or (λ last. last.round) (slice_get entries (length entries - 1)) 1
