@@ -7,6 +7,7 @@ use crate::check::read_check;
 use crate::command::{Command, WordsFault};
 use crate::cores::read_core;
 use crate::moves::read_move;
+use crate::rounds::read_rounds;
 use crate::sample::read_sample;
 use crate::solve::read_solve;
 use crate::spare::read_spare;
@@ -28,6 +29,8 @@ fn read_named(alloc: Global, name: &str, words: &[Word]) -> Result<Command, Word
         Ok(Command::Spare(read_spare(alloc, words)?))
     } else if name == "core" {
         Ok(Command::Core(read_core(alloc, words)?))
+    } else if name == "rounds" {
+        Ok(Command::Rounds(read_rounds(alloc, words)?))
     } else if name == "sample" {
         Ok(Command::Sample(read_sample(alloc, words)?))
     } else {

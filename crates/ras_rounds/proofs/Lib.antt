@@ -1,0 +1,14 @@
+pub mod AfterRule
+pub mod AfterOnce
+pub mod PlacesMore
+pub mod ScriptFacts
+pub mod ScriptWithin
+pub mod Grouped
+pub mod Mended
+pub mod Flags
+pub mod Unchanged
+pub mod Cleared
+pub mod Touched
+pub mod Mending
+pub mod SortedTable
+pub mod WholeMend
