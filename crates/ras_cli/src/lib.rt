@@ -7,6 +7,7 @@ mod files;
 mod named;
 mod note;
 mod output;
+mod rounds;
 mod top;
 
 pub use top::run;

@@ -70,6 +70,12 @@ pub fn named_files<'a>(alloc: Global, command: &'a Command) -> Result<Vec<Named<
             file(&words.requests),
             file(&words.bindings),
         ]?),
+        Command::Rounds(words) => Ok(vec![in alloc;
+            file(&words.inventory),
+            file(&words.requests),
+            file(&words.bindings),
+            file(&words.script),
+        ]?),
         Command::Sample(_) => Ok(Vec::new(alloc)),
     }
 }
