@@ -1,3 +1,4 @@
+pub mod StartFacts
+pub mod EventFacts
+pub mod RunFacts
 pub mod Leads
-pub mod TargetFacts
-pub mod MoverFacts

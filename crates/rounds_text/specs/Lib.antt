@@ -1,4 +1,3 @@
-pub mod Targets
 pub mod Scripts
 pub mod Rounds
 pub mod Runs

@@ -6,7 +6,7 @@ use Rattle.plan_document.specs.declared.document.Document.{Document}
 use Rattle.plan_document.specs.Documents.{document_of, seen_document}
 use Rattle.plan_document.specs.Written.{document_text}
 use Rattle.plan_checker.specs.Solution.{IsSolution}
-use Rattle.rounds_text.specs.Targets.{target_of}
+use Rattle.plan_checker.specs.Target.{target_of}
 use Rattle.online_mover.specs.States.{State, state_at_start}
 use Rattle.move_text.specs.Texts.{IsMoveTextTo}
 use Rattle.ras_rounds.specs.Rounds.{IsAfter, region_classes}

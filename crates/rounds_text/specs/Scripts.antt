@@ -1,5 +1,5 @@
 -- The rounds of a script, and the events of each.
-use Rattle.std.specs.Prelude.{ℕ, ◌-◌, ◌==◌, List, length, filter, map, slice_get}
+use Rattle.std.specs.Prelude.{ℕ, ◌-◌, ◌==◌, max, List, length, filter, map, slice_get}
 use Rattle.std.specs.Option.{option_map_or}
 use Rattle.online_mover.specs.declared.timed.Timed.{Timed}
 use Rattle.ras_rounds.specs.declared.entries.Entry.{Entry}
@@ -8,6 +8,6 @@ use Rattle.ras_rounds.specs.declared.entries.Entry.{Entry}
 abbrev pub events_of : ℕ → List Entry → List Timed
 events_of number entries = map (λ entry. record { at = number; event = entry.event }) (filter (λ entry. entry.round == number) entries)
 
--- how many rounds there are: the number of the last record, and one where there is no record
+-- How many rounds there are: the number of the last record, and one where there is no record. Rounds have numbers from 1.
 abbrev pub rounds_of : List Entry → ℕ
-rounds_of entries = option_map_or (λ last. last.round) (slice_get entries (length entries - 1)) 1
+rounds_of entries = option_map_or (λ last. max last.round 1) (slice_get entries (length entries - 1)) 1

@@ -7,12 +7,12 @@ use ras_rounds::Entry;
 use ras_table::List;
 use std::alloc::{AllocError, Global};
 
-/// How many rounds a script has.
+/// How many rounds a script has: at least one.
 pub(crate) fn rounds_of(entries: &List<Entry>) -> u32
     ensures { result ≡ rounds_of entries.now }
 {
     match entries.as_slice().last() {
-        Some(last) => last.round,
+        Some(last) => last.round.max(1),
         None => 1,
     }
 }

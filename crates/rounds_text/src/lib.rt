@@ -9,7 +9,6 @@ mod lines;
 mod moves;
 mod options;
 mod run;
-mod targets;
 
 pub use done::Round;
 pub use laws::rounds_lead_on;

@@ -8,13 +8,13 @@ ghost use Rattle.plan_model.specs.Units.{servers_with_places};
 ghost use Rattle.ras_rounds.specs.Rounds.{region_classes};
 ghost use Rattle.rounds_text.specs.Ready.{AreThere, AreWithin};
 ghost use Rattle.rounds_text.specs.Rounds.{AddsMoves, IsMoved};
-ghost use Rattle.rounds_text.specs.Targets.{target_of};
+ghost use Rattle.plan_checker.specs.Target.{target_of};
 
 use crate::events::events_of;
 use crate::options::RoundOptions;
-use crate::targets::target_of;
 use move_text::run_text;
 use online_mover::Mover;
+use plan_checker::target_of;
 use plan_document::Document;
 use plan_model::{Assignment, Case};
 use ras_inventory::Region;
@@ -52,7 +52,6 @@ fn move_on(
     let events = events_of(alloc, number, entries)?;
     let mut mover = Mover::start(alloc, case, target, options.at_once)?;
     let text = run_text(alloc, region, requests, &mut mover, &events)?;
-    mover.keeps_rule();
     table.carry(alloc, case, &mover)?;
     Ok(text)
 }
@@ -84,12 +83,14 @@ pub(crate) fn put_moves(
     ensures reservations { length case.new.wants ≡ length case.old.wants }
     ensures table { table.new ≡ region_classes case.new }
 {
-    let Some(target) = target_of(document) else {
-        return Ok(false);
-    };
-    let moves = move_on(
-        alloc, region, requests, options, entries, number, target, case, table,
-    )?;
-    text.extend_from_slice(moves.as_slice())?;
-    Ok(true)
+    match target_of(document) {
+        Some(target) => {
+            let moves = move_on(
+                alloc, region, requests, options, entries, number, target, case, table,
+            )?;
+            text.extend_from_slice(moves.as_slice())?;
+            Ok(true)
+        }
+        None => Ok(false),
+    }
 }

@@ -25,7 +25,7 @@ use std::alloc::{AllocError, Global};
 use std::marker::Model;
 
 /// A run of rounds over a script: what it is over, how many rounds were run, and the case of the next one with its classes.
-#[derive(Debug, Drop)]
+#[derive(Drop)]
 pub struct Rounds {
     region: Region,
     requests: Requests,
@@ -98,6 +98,7 @@ impl Rounds {
         ensures round { IfOk result (λ round. IsNext self.old round self.new) }
         ensures fault { IfErr result (IsFault (size_fault_of self.old.case (region_setting self.old.case) (region_classes self.old.case))) }
     {
+        let last = rounds_of(&self.entries);
         let number = self.done + 1;
         let asked = self.options;
         let document = round(
@@ -122,7 +123,7 @@ impl Rounds {
         Ok(Round {
             text,
             answer: document.answer,
-            goes_on: moved && number < rounds_of(&self.entries),
+            goes_on: moved && number < last,
         })
     }
 }
