@@ -1,5 +1,5 @@
 -- The documents of rounds are accepted.
-use Rattle.std.proofs.Common.{ℕ, ◌≡◌, ◌+◌, List, [], ◌∷◌, Option, Some, None}
+use Rattle.std.proofs.Common.{ℕ, ◌+◌, List, [], ◌∷◌, Option, Some, None}
 use Rattle.plan_model.specs.declared.cases.Case.{Case}
 use Rattle.rounds_text.specs.Rounds.{Agenda, DoneRound, IsRound}
 use Rattle.rounds_text.specs.Runs.{AreRounds}

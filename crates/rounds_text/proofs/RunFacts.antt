@@ -1,5 +1,5 @@
 -- One round more.
-use Rattle.std.proofs.Common.{ℕ, suc, ◌≡◌, ◌+◌, ◌≤◌, ◌<◌, List, [], ◌∷◌, ◌++◌, length, length-append, arith, sym, ap, subst, ◌∙◌, refl, Option, Some, None, Bool, true, false}
+use Rattle.std.proofs.Common.{ℕ, ◌≡◌, ◌+◌, ◌<◌, List, [], ◌∷◌, ◌++◌, length, length-append, arith, subst, refl, Option, Some, None}
 use Rattle.plan_model.specs.declared.cases.Case.{Case}
 use Rattle.rounds_text.specs.Scripts.{rounds_of}
 use Rattle.rounds_text.specs.Rounds.{Agenda, DoneRound, IsRound}

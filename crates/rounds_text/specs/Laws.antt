@@ -1,5 +1,5 @@
 -- What holds of the rounds of a script.
-use Rattle.std.specs.Prelude.{ℕ, ◌≡◌, ⊤, List, [], ◌∷◌, Option, Some, None}
+use Rattle.std.specs.Prelude.{◌≡◌, ⊤, List, [], ◌∷◌, Option, Some, None}
 use Rattle.plan_model.specs.declared.cases.Case.{Case}
 use Rattle.plan_checker.specs.Accepted.{IsAccepted}
 use Rattle.plan_checker.specs.Headline.{KeepsPromises}

@@ -1,5 +1,5 @@
 -- The rounds of a script, one after the other.
-use Rattle.std.specs.Prelude.{ℕ, ◌≡◌, ◌+◌, ◌≤◌, ◌<◌, ◌&&◌, ⊤, List, [], ◌∷◌, length, nat_lt, Option, Some, None, is_some, IfSome}
+use Rattle.std.specs.Prelude.{ℕ, ◌≡◌, ◌+◌, ◌≤◌, ◌&&◌, ⊤, List, [], ◌∷◌, length, nat_lt, Option, Some, None, is_some, IfSome}
 use Rattle.plan_model.specs.declared.cases.Case.{Case}
 use Rattle.plan_document.specs.declared.document.Document.{Document}
 use Rattle.rounds_text.specs.declared.done.Round.{Round}

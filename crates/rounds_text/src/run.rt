@@ -1,5 +1,5 @@
 //! A run of rounds.
-ghost use Rattle.std.specs.Prelude.{◌≡◌, ◌<◌, ◌≤◌, IfErr, IfOk, length};
+ghost use Rattle.std.specs.Prelude.{◌≡◌, ◌<◌, ◌&&◌, IfErr, IfOk, length, nat_lt};
 ghost use Rattle.ras_inventory.specs.RegionRule.{server_names};
 ghost use Rattle.ras_requests.specs.RequestsRule.{reservation_names};
 ghost use Rattle.program_rows.specs.Settings.{region_setting};
@@ -51,6 +51,13 @@ impl Model for Rounds {
     } };
 
     ghost invariant = { λ r. IsReady r.region r.requests r.options r.entries r.case r.table r.done };
+}
+
+// Whether a further round follows a round with this number.
+fn follows(moved: bool, number: u32, last: u32) -> bool
+    ensures { result ≡ (moved && nat_lt number last) }
+{
+    moved && number < last
 }
 
 impl Rounds {
@@ -119,11 +126,12 @@ impl Rounds {
             &mut self.case,
             &mut self.table,
         )?;
+        let goes_on = follows(moved, number, last);
         self.done = number;
         Ok(Round {
             text,
             answer: document.answer,
-            goes_on: moved && number < last,
+            goes_on,
         })
     }
 }

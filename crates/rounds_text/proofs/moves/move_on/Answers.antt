@@ -1,4 +1,4 @@
-use Rattle.std.proofs.Common.{◌≡◌, ℕ, true, List, length, subst, sym}
+use Rattle.std.proofs.Common.{◌≡◌, true, List, length, subst, sym}
 use Rattle.std.specs.List.{list_all}
 use Rattle.ras_inventory.specs.RegionRule.{server_names}
 use Rattle.ras_requests.specs.RequestsRule.{reservation_names}
