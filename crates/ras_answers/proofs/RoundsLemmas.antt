@@ -160,14 +160,19 @@ module _ (i r b s : List ℕ) (options : RoundOptions) (texts : List (List ℕ))
     where
       done : DoneRound
       done = record { document = is.document; text = round.text.items; after = is.left }
+
       goes-not : (is_some is.left && nat_lt (run.rounds.done + 1) (rounds_of run.rounds.agenda.entries)) ≡ false
       goes-not = sym is.goes_on ∙ goes
+
       all-spent : after.spent ≡ some_spent (stands.rounds ++ done ∷ [])
       all-spent = spent ∙ ap (λ a. run.spent || is_limit a) is.answer ∙ ap (λ x. x || is_limit is.document.answer) stands.spent ∙ sym (spent-more stands.rounds done)
+
       spent-right : ending_with after.spent round.answer ≡ ending_with (some_spent (stands.rounds ++ done ∷ [])) round.answer
       spent-right = ap (λ x. ending_with x round.answer) all-spent
+
       answer-right : ending_with (some_spent (stands.rounds ++ done ∷ [])) round.answer ≡ rounds_ending (stands.rounds ++ done ∷ [])
       answer-right = ap (ending_with (some_spent (stands.rounds ++ done ∷ []))) (is.answer ∙ sym (last-more stands.rounds done))
+
       over : (left : Option Case) → (is_some left && nat_lt (run.rounds.done + 1) (rounds_of run.rounds.agenda.entries)) ≡ false
           → IsOver run.rounds.agenda (length (stands.rounds ++ done ∷ [])) left
       over None e = tt

@@ -70,11 +70,7 @@ fn ending_with(spent: bool, answer: plan_document::Answer) -> Ending
 }
 
 // The run over the files of a case and the entries of a script.
-fn begin(
-    alloc: Global,
-    read: RoundsFiles,
-    options: RoundOptions,
-) -> Result<RoundsRun, AllocError>
+fn begin(alloc: Global, read: RoundsFiles, options: RoundOptions) -> Result<RoundsRun, AllocError>
     requires each { length read.files.bindings.of ≡ length read.files.region.servers }
     requires there { AreThere (length read.files.region.servers) read.entries }
     requires within { AreWithin options }
@@ -82,9 +78,7 @@ fn begin(
 {
     let RoundsFiles { files, entries } = read;
     let case = join(alloc, &files.region, &files.requests, &files.bindings)?;
-    let rounds = Rounds::start(
-        alloc, files.region, files.requests, case, entries, options,
-    )?;
+    let rounds = Rounds::start(alloc, files.region, files.requests, case, entries, options)?;
     Ok(RoundsRun {
         rounds,
         spent: false,

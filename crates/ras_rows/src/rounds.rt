@@ -70,14 +70,18 @@ fn two_rounds(rt: HostRuntime) -> Result<(), Fail> {
         ("end,total,0,0", ""),
     ];
     assert!(rt; is_like(text, wanted.as_slice()), "{text}");
-    assert!(rt; text.contains(r#""value":4}"#) && text.contains(r#""value":0}"#), "{text}");
+    assert!(rt;
+        text.contains(r#""value":4}"#) && text.contains(r#""value":0}"#),
+        "{text}"
+    );
     Ok(())
 }
 
 #[test]
 fn two_rounds_one_loss(rt: HostRuntime) -> Result<(), Fail> {
-    let script =
-        format!(in rt.alloc(); "{HEAD}1,tick,\n1,joined,s1\n1,joined,s2\n1,down,s1\n2,tick,\n")?;
+    let script = format!(in rt.alloc();
+        "{HEAD}1,tick,\n1,joined,s1\n1,joined,s2\n1,down,s1\n2,tick,\n"
+    )?;
     let found = ran_rounds(rt.alloc(), script.as_str())?;
     assert_eq!(rt; found.status, 0);
     assert_eq!(rt; found.noted.as_str(), "");
@@ -103,8 +107,7 @@ fn two_rounds_one_loss(rt: HostRuntime) -> Result<(), Fail> {
 // first box has a bound, and neither a plan nor a first plan is there.
 #[test]
 fn round_at_its_limit(rt: HostRuntime) -> Result<(), Fail> {
-    let both =
-        r#"{"name":"a","need":1,"values":{"t":1}},{"name":"b","need":1,"values":{"t":1}}"#;
+    let both = r#"{"name":"a","need":1,"values":{"t":1}},{"name":"b","need":1,"values":{"t":1}}"#;
     let wanted = requests(rt.alloc(), 1, both)?;
     let script = format!(in rt.alloc(); "{HEAD}2,tick,\n")?;
     let texts = Texts {
@@ -147,11 +150,26 @@ fn refused_scripts(rt: HostRuntime) -> Result<(), Fail> {
     let wanted = one_request(rt.alloc(), 2, 1, 1, "")?;
     let cases = [
         ("at,event,server\n", "3||ras: script: line 1: head\n"),
-        ("round,event,server\n0,tick,\n", "3||ras: script: line 2: order\n"),
-        ("round,event,server\n2,tick,\n1,tick,\n", "3||ras: script: line 3: order\n"),
-        ("round,event,server\n101,tick,\n", "3||ras: script: line 2: column 1\n"),
-        ("round,event,server\n1,gone,s1\n", "3||ras: script: line 2: word\n"),
-        ("round,event,server\n1,joined,s9\n", "3||ras: script: line 2: unknown\n"),
+        (
+            "round,event,server\n0,tick,\n",
+            "3||ras: script: line 2: order\n",
+        ),
+        (
+            "round,event,server\n2,tick,\n1,tick,\n",
+            "3||ras: script: line 3: order\n",
+        ),
+        (
+            "round,event,server\n101,tick,\n",
+            "3||ras: script: line 2: column 1\n",
+        ),
+        (
+            "round,event,server\n1,gone,s1\n",
+            "3||ras: script: line 2: word\n",
+        ),
+        (
+            "round,event,server\n1,joined,s9\n",
+            "3||ras: script: line 2: unknown\n",
+        ),
     ];
     for (script, want) in cases {
         let texts = Texts {

@@ -9,11 +9,11 @@ ghost use Rattle.rounds_text.specs.Ready.{AreThere, AreWithin};
 ghost use Rattle.rounds_text.specs.Runs.{IsNext};
 ghost use Rattle.rounds_text.specs.Scripts.{rounds_of};
 
+use crate::done::Round;
 use crate::events::rounds_of;
 use crate::lines::{put_document, put_line};
 use crate::moves::put_moves;
 use crate::options::RoundOptions;
-use crate::done::Round;
 use plan_checker::Planner;
 use plan_model::Case;
 use program_rows::SizeFault;
@@ -45,9 +45,9 @@ impl Model for Rounds {
     ghost Value = { Run };
 
     ghost view = { λ r. record {
-        agenda = record { servers = server_names r.region.servers; reservations = reservation_names r.requests.list; options = r.options; entries = r.entries };
-        done = r.done;
-        case = r.case;
+      agenda = record { servers = server_names r.region.servers; reservations = reservation_names r.requests.list; options = r.options; entries = r.entries };
+      done = r.done;
+      case = r.case;
     } };
 
     ghost invariant = { λ r. IsReady r.region r.requests r.options r.entries r.case r.table r.done };
@@ -78,9 +78,9 @@ impl Rounds {
         requires there { AreThere (length region.servers) entries }
         requires within { AreWithin options }
         ensures { IfOk result (λ rounds. rounds ≡ record {
-            agenda = record { servers = server_names region.servers; reservations = reservation_names requests.list; options = options; entries = entries };
-            done = 0;
-            case = case;
+          agenda = record { servers = server_names region.servers; reservations = reservation_names requests.list; options = options; entries = entries };
+          done = 0;
+          case = case;
         }) }
     {
         let table = Table::new(alloc, &case)?;
@@ -109,7 +109,13 @@ impl Rounds {
         let number = self.done + 1;
         let asked = self.options;
         let document = round(
-            alloc, &self.case, &self.table, asked.gap, asked.nodes, asked.racks, planner,
+            alloc,
+            &self.case,
+            &self.table,
+            asked.gap,
+            asked.nodes,
+            asked.racks,
+            planner,
         )?;
         let mut text = Vec::new(alloc);
         put_line(&mut text, number, self.table.classes().list.len())?;
