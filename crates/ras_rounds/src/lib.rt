@@ -7,16 +7,16 @@ mod entries;
 mod fault;
 mod laws;
 mod places;
-mod round;
 mod script;
+mod solving;
 mod table;
 
 pub use after::case_after;
 pub use entries::Entry;
 pub use fault::ScriptFault;
 pub use laws::{case_after_is_one, mend_is_grouped, mend_is_right, table_is_one};
-pub use round::round;
 pub use script::read_script;
+pub use solving::round;
 pub use table::Table;
 
 #[cfg(test)]
