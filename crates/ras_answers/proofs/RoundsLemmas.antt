@@ -21,11 +21,13 @@ use Rattle.rounds_text.proofs.EventFacts.{some-round}
 use Rattle.rounds_text.proofs.RunFacts.{first-more}
 use Rattle.ras_answers.specs.declared.all.CaseFiles.{CaseFiles}
 use Rattle.ras_answers.specs.declared.inputs.InputFault.{InputFault}
+use Rattle.ras_answers.specs.declared.answer.Ending.{Ending}
 use Rattle.ras_answers.specs.declared.rounds.RoundsRun.{RoundsRun}
+use Rattle.ras_answers.specs.declared.rounds.RoundAnswer.TheVariants as given
 use Rattle.ras_answers.specs.Answered.{Invalid}
 use Rattle.ras_answers.specs.Inputs.{AreCaseFiles, SeenCase, case_read, note_in, or_note, script_line, script_read, told, with_note}
 use Rattle.ras_answers.specs.Solve.{region_size, size_answer}
-use Rattle.ras_answers.specs.Rounds.{AreRoundsFiles, AreFirstTexts, AreTexts, ByRoundsNote, EndsAfter, Ended, IsBegun, IsTooLarge, Noted, RoundsAnswers, RoundsEnd, StandsAfter, agenda_of, ending_with, is_limit, last_answer, rounds_ending, rounds_note, some_spent, texts_of}
+use Rattle.ras_answers.specs.Rounds.{AreRoundsFiles, AreFirstTexts, AreTexts, ByRoundsNote, EndsAfter, Ended, IsBegun, IsTooLarge, Noted, GivesRound, RoundsAnswers, RoundsEnd, StandsAfter, agenda_of, end_with, ending_with, is_limit, last_answer, rounds_ending, rounds_note, some_spent, texts_of}
 use Rattle.ras_answers.proofs.InputLemmas.{files-read, first-note, in-note, later-note, seen-files}
 
 -- ---- lists of rounds, one round on
@@ -201,3 +203,16 @@ module _ (i r b s : List ℕ) (options : RoundOptions) (texts : List (List ℕ))
       sized (Columns n) e told = (Columns n, (e, told))
       sized (Rows n) e told = (Rows n, (e, told))
       sized Memory e told = absurd cc
+
+  -- what a round gives
+  pub gives-round : (round : Round) (after : RoundsRun) (end : Option Ending) → IsNext run.rounds round after.rounds → after.spent ≡ (run.spent || is_limit round.answer)
+      → end ≡ end_with round.goes_on after.spent round.answer → GivesRound i r b s options texts after (given.Printed round.text end)
+  gives-round round after end is spent same = by round.goes_on refl
+    where
+      by : (flag : Bool) → round.goes_on ≡ flag → GivesRound i r b s options texts after (given.Printed round.text end)
+      by true e =
+          subst (λ (o : Option Ending). GivesRound i r b s options texts after (given.Printed round.text o)) (sym (same ∙ ap (λ x. end_with x after.spent round.answer) e))
+          (goes-on round after is spent e)
+      by false e =
+          subst (λ (o : Option Ending). GivesRound i r b s options texts after (given.Printed round.text o)) (sym (same ∙ ap (λ x. end_with x after.spent round.answer) e))
+          (ends round after is spent e)

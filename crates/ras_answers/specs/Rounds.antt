@@ -77,6 +77,11 @@ ending_with spent answer.Infeasible = ending.Infeasible
 ending_with spent answer.Limit = ending.Limit
 ending_with spent answer.Plan = if spent then ending.Limit else ending.Done
 
+-- and none where the run goes on
+abbrev pub end_with : Bool → Bool → Answer → Option Ending
+end_with true spent a = None
+end_with false spent a = Some (ending_with spent a)
+
 abbrev pub rounds_ending : List DoneRound → Ending
 rounds_ending rounds = ending_with (some_spent rounds) (last_answer rounds)
 

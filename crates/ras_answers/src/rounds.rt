@@ -1,9 +1,9 @@
 //! What `rounds` answers, one round at a time.
-ghost use Rattle.std.specs.Prelude.{ℕ, ◌≡◌, ◌<◌, ◌≤◌, ◌*◌, ◌^◌, List, [], IfOk, length};
+ghost use Rattle.std.specs.Prelude.{ℕ, ◌≡◌, ◌<◌, ◌≤◌, ◌*◌, ◌^◌, ◌||◌, List, [], IfOk, length};
 ghost use Rattle.rounds_text.specs.Ready.{AreThere, AreWithin};
 ghost use Rattle.rounds_text.specs.Scripts.{rounds_of};
 ghost use Rattle.rounds_text.specs.declared.options.RoundOptions.{RoundOptions};
-ghost use Rattle.ras_answers.specs.Rounds.{BeginsRounds, GivesRound, GivesRoundsFiles, IsBegun, StandsAfter, ending_with, is_limit};
+ghost use Rattle.ras_answers.specs.Rounds.{BeginsRounds, GivesRound, GivesRoundsFiles, IsBegun, StandsAfter, end_with, ending_with, is_limit};
 
 use crate::all::CaseFiles;
 use crate::answer::Ending;
@@ -58,6 +58,13 @@ fn is_limit(answer: plan_document::Answer) -> bool
     }
 }
 
+// Whether the budget of some document was spent, after one more with such an answer.
+fn spent_after(spent: bool, answer: plan_document::Answer) -> bool
+    ensures { result ≡ (spent || is_limit answer) }
+{
+    spent || is_limit(answer)
+}
+
 // How a run ends whose last document has such an answer.
 fn ending_with(spent: bool, answer: plan_document::Answer) -> Ending
     ensures { result ≡ ending_with spent answer }
@@ -67,6 +74,16 @@ fn ending_with(spent: bool, answer: plan_document::Answer) -> Ending
         plan_document::Answer::Limit => Ending::Limit,
         plan_document::Answer::Plan => if spent { Ending::Limit } else { Ending::Done },
     }
+}
+
+// The same, where the run does not go on.
+fn end_with(goes_on: bool, spent: bool, answer: plan_document::Answer) -> Option<Ending>
+    ensures { result ≡ end_with goes_on spent answer }
+{
+    if goes_on {
+        return None;
+    }
+    Some(ending_with(spent, answer))
 }
 
 // The run over the files of a case and the entries of a script.
@@ -154,12 +171,8 @@ impl RoundsRun {
         let mut planner = ExactPlanner;
         match self.rounds.next(alloc, &mut planner) {
             Ok(round) => {
-                self.spent = self.spent || is_limit(round.answer);
-                let end = if round.goes_on {
-                    None
-                } else {
-                    Some(ending_with(self.spent, round.answer))
-                };
+                self.spent = spent_after(self.spent, round.answer);
+                let end = end_with(round.goes_on, self.spent, round.answer);
                 Ok(RoundAnswer::Printed {
                     text: round.text,
                     end,
