@@ -1,15 +1,12 @@
 -- What `rounds` answers, by what was read and run.
 use Rattle.std.proofs.Common.{ℕ, ◌≡◌, ◌+◌, ◌<◌, ◌≤◌, ◌∙◌, Bool, true, false, List, [], ◌∷◌, ◌++◌, length, length-append, arith, sym, ap, subst, refl, Option, Some, None, IfSome, Result, Ok, Err}
-use Rattle.std.specs.Prelude.{◌&&◌, ◌||◌, nat_lt, is_some, map}
-use Rattle.std.specs.List.{list_any}
+use Rattle.std.specs.Prelude.{◌&&◌, ◌||◌, nat_lt, is_some}
 use Rattle.std.proofs.lemmas.Bool.Decides.{nat_tests}
 use Rattle.ras_inventory.specs.RegionRule.{server_names}
 use Rattle.plan_model.specs.declared.cases.Case.{Case}
-use Rattle.plan_model.specs.Joined.{IsJoined}
 use Rattle.program_rows.specs.declared.fault.SizeFault.{SizeFault}
 use Rattle.program_rows.specs.declared.fault.SizeFault.TheVariants.{Columns, Rows, Memory}
 use Rattle.program_rows.specs.Sizes.{IsFault}
-use Rattle.plan_document.specs.declared.document.Answer.{Answer}
 use Rattle.ras_rounds.specs.Scripts.{script_of}
 use Rattle.ras_rounds.specs.declared.entries.Entry.{Entry}
 use Rattle.rounds_text.specs.declared.options.RoundOptions.{RoundOptions}
@@ -27,7 +24,7 @@ use Rattle.ras_answers.specs.declared.rounds.RoundAnswer.TheVariants as given
 use Rattle.ras_answers.specs.Answered.{Invalid}
 use Rattle.ras_answers.specs.Inputs.{AreCaseFiles, SeenCase, case_read, note_in, or_note, script_line, script_read, told, with_note}
 use Rattle.ras_answers.specs.Solve.{region_size, size_answer}
-use Rattle.ras_answers.specs.Rounds.{AreRoundsFiles, AreFirstTexts, AreTexts, ByRoundsNote, EndsAfter, Ended, IsBegun, IsTooLarge, Noted, GivesRound, RoundsAnswers, RoundsEnd, StandsAfter, agenda_of, end_with, ending_with, is_limit, last_answer, rounds_ending, rounds_note, some_spent, texts_of}
+use Rattle.ras_answers.specs.Rounds.{AreRoundsFiles, AreTexts, ByRoundsNote, Ended, IsBegun, IsTooLarge, Noted, GivesRound, RoundsAnswers, RoundsEnd, StandsAfter, end_with, ending_with, is_limit, last_answer, rounds_ending, rounds_note, some_spent, texts_of}
 use Rattle.ras_answers.proofs.InputLemmas.{files-read, first-note, in-note, later-note, seen-files}
 
 -- ---- lists of rounds, one round on

@@ -1,5 +1,5 @@
 -- What `rounds` answers: the texts of rounds, one after the other, and how the run ends.
-use Rattle.std.specs.Prelude.{ℕ, ◌≡◌, ◌<◌, ◌⊎◌, ⊤, Bool, true, false, if◌then◌else◌, List, [], ◌∷◌, ◌++◌, length, map, string_bytes, Option, Some, None, IfSome, Result, Ok, Err}
+use Rattle.std.specs.Prelude.{ℕ, ◌≡◌, ◌<◌, Bool, true, false, if◌then◌else◌, List, [], ◌∷◌, ◌++◌, length, map, string_bytes, Option, Some, None, IfSome, Result, Ok, Err}
 use Rattle.std.specs.List.{list_any}
 use Rattle.ras_inventory.specs.RegionRule.{server_names}
 use Rattle.ras_requests.specs.RequestsRule.{reservation_names}
@@ -24,7 +24,7 @@ use Rattle.ras_answers.specs.declared.rounds.RoundAnswer.{RoundAnswer}
 use Rattle.ras_answers.specs.declared.rounds.RoundAnswer.TheVariants as given
 use Rattle.ras_answers.specs.declared.rounds.RoundsStart.{RoundsStart}
 use Rattle.ras_answers.specs.declared.rounds.RoundsStart.TheVariants as start
-use Rattle.ras_answers.specs.Answered.{Answered, Invalid}
+use Rattle.ras_answers.specs.Answered.{Invalid}
 use Rattle.ras_answers.specs.Inputs.{AreCaseFiles, case_read, note_in, or_note, script_read, told}
 use Rattle.ras_answers.specs.Solve.{region_size, size_answer}
 
