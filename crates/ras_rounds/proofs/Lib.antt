@@ -12,3 +12,5 @@ pub mod Touched
 pub mod Mending
 pub mod SortedTable
 pub mod WholeMend
+pub mod MendSteps
+pub mod CarryFacts

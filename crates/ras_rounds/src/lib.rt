@@ -3,9 +3,11 @@
 #![tactic(auto)]
 
 mod after;
+mod changes;
 mod entries;
 mod fault;
 mod laws;
+mod mend;
 mod places;
 mod script;
 mod solving;

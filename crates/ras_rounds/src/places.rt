@@ -8,7 +8,7 @@ use ras_table::List;
 use std::alloc::{AllocError, Global};
 
 /// Whether two holders are the same.
-fn same_holder(one: Holder, other: Holder) -> bool
+pub(crate) fn same_holder(one: Holder, other: Holder) -> bool
     ensures { result ≡ same_holder_of one other }
 {
     match (one, other) {

@@ -2,11 +2,15 @@ ghost use Rattle.std.specs.Prelude.{◌≡◌, IfOk, OnOk, OnErr, length};
 ghost use Rattle.ras_rounds.specs.Rounds.{IsAfter, region_classes};
 
 use crate::after::case_after;
+use crate::changes::changes_between;
+use crate::mend::{loose_flags, settle};
 use online_mover::Mover;
 use plan_model::{Case, Grouping};
 use program_rows::{Phase, movables};
+use ras_table::List;
 use std::alloc::{AllocError, Global};
 use std::marker::Model;
+use std::mem::replace;
 use symmetry_classes::{Classes, group};
 
 /// The classes of the region phase of a case, which are kept across rounds.
@@ -44,7 +48,8 @@ impl Table {
         &self.classes
     }
 
-    /// Makes the case the one after a round that the mover has come to, and the table that case's.
+    /// Makes the case the one after a round that the mover has come to, and mends the table for the servers that changed. Time
+    /// linear in the servers, and in the classes times the servers that changed.
     ///
     /// # Errors
     /// For want of memory. Then case and table are as before.
@@ -58,9 +63,18 @@ impl Table {
         ensures table_kept { OnErr result (self.new ≡ self.old) }
     {
         let after = case_after(alloc, case, mover)?;
-        let table = Table::new(alloc, &after)?;
+        let changes = changes_between(alloc, case.places.as_slice(), after.places.as_slice())?;
+        let loose = loose_flags(alloc, &changes, self.classes.list.as_slice(), &after)?;
+        let fresh = group(alloc, &after, &loose, false, Grouping::Class)?;
+        let empty = List::from_vec(Vec::new(alloc));
+        let mut classes = replace(&mut self.classes.list, empty).into_vec();
+        if classes.reserve(fresh.list.len() as usize).is_err() {
+            self.classes.list = List::from_vec(classes);
+            return Err(AllocError);
+        }
+        settle(&mut classes, fresh.list.into_vec(), &changes);
+        self.classes.list = List::from_vec(classes);
         *case = after;
-        *self = table;
         Ok(())
     }
 }
