@@ -117,17 +117,22 @@ sample_app = with_rule (with_rule (new_app (codes "sample")) (needed_number (cod
 abbrev pub sample_words : List Row → SampleWords
 sample_words rows = record { number = number_in (codes "NUMBER") 0 65536 0 rows; size = number_in (codes "SIZE") 2 40 2 rows }
 
--- what the words from a command's name on ask for
-abbrev pub named : Text → List Text → Result Command Refusal
-named name words =
-    if bytes_eq name (codes "check") then with_rows (λ rows. command.Check (check_words rows)) (rows_read check_app words)
-    else if bytes_eq name (codes "solve") then with_rows (λ rows. command.Solve (solve_words rows)) (rows_read solve_app words)
-    else if bytes_eq name (codes "move") then with_rows (λ rows. command.Move (move_words rows)) (rows_read move_app words)
-    else if bytes_eq name (codes "spare") then with_rows (λ rows. command.Spare (spare_words rows)) (rows_read spare_app words)
+-- what the words from a command's name on ask for, by the commands that make plans
+abbrev pub named_planning : Text → List Text → Result Command Refusal
+named_planning name words =
+    if bytes_eq name (codes "solve") then with_rows (λ rows. command.Solve (solve_words rows)) (rows_read solve_app words)
     else if bytes_eq name (codes "core") then with_rows (λ rows. command.Core (core_words rows)) (rows_read core_app words)
     else if bytes_eq name (codes "rounds") then with_rows (λ rows. command.Rounds (rounds_words rows)) (rows_read rounds_app words)
     else if bytes_eq name (codes "sample") then with_rows (λ rows. command.Sample (sample_words rows)) (rows_read sample_app words)
     else Err NoCommand
+
+-- and by all commands
+abbrev pub named : Text → List Text → Result Command Refusal
+named name words =
+    if bytes_eq name (codes "check") then with_rows (λ rows. command.Check (check_words rows)) (rows_read check_app words)
+    else if bytes_eq name (codes "move") then with_rows (λ rows. command.Move (move_words rows)) (rows_read move_app words)
+    else if bytes_eq name (codes "spare") then with_rows (λ rows. command.Spare (spare_words rows)) (rows_read spare_app words)
+    else named_planning name words
 
 -- what the words ask for: the first is the program's name, and the second names the command
 abbrev pub command_of : List Text → Result Command Refusal
