@@ -21,7 +21,7 @@ use rounds_text::RoundOptions;
 use std::alloc::{AllocError, Global};
 
 /// What comes of a command and the bytes of its files, before anything is put.
-#[derive(Debug, Drop)]
+#[derive(Drop)]
 pub enum Outcome {
     /// All of the answer.
     Answered(Answer),
