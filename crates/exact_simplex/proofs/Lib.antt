@@ -39,10 +39,8 @@ pub mod Raises
 pub mod LicenceSteps
 pub mod LastSteps
 pub mod KeptFacts
-pub mod MarkFacts
 pub mod FitFacts
 pub mod MergeFacts
-pub mod TermFacts
 pub mod MovedSums
 pub mod Moved
 pub mod ShiftSteps

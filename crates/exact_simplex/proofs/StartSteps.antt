@@ -7,7 +7,7 @@ use Rattle.exact_simplex.specs.Forms.{Parts, parts_of, step, surplus, room, form
 use Rattle.exact_simplex.specs.Start.{start_of}
 use Rattle.exact_simplex.specs.Cells.{cell_of, row_of, number_at, Shows}
 use Rattle.std.proofs.lemmas.Bool.{cases_eq, eq-eqb, ne_eqb}
-use Rattle.exact_simplex.specs.Beginning.{IsWhole, IsWholeRow, ShowsForm, AreSlopes, single_form, terms_form}
+use Rattle.exact_simplex.specs.Beginning.{IsWhole, IsWholeRow, ShowsForm, AreSlopes, single_form}
 use Rattle.exact_simplex.specs.Kept.{AreBelow, all_cells, value_of}
 use Rattle.exact_simplex.specs.declared.tableau_row.Kept.{Kept}
 use Rattle.exact_simplex.proofs.KeptFacts.{below_more, cell_is, size_is}
@@ -56,27 +56,16 @@ start_shows p cells units rows size are = record {
   units_are = are;
 }
 
-form_as : (n : ℕ) (row : List Fraction) (f g : Form) → ((k : ℕ) → f.slope k ≡ g.slope k) → f.constant ≡ g.constant → ShowsForm n row f → ShowsForm n row g
-form_as n row f g slope constant is = record {
-  size = is.size;
-  first = subst (λ (z : ℤ). IsWhole (cell_of row 0) z) constant is.first;
-  others = λ k p. subst (λ (z : ℤ). IsWhole (cell_of row (suc k)) z) (slope k) (is.others k p);
-}
-
-form_as_when : {E : Type 0} (found : Result (List Fraction) E) (n : ℕ) (f g : Form) → ((k : ℕ) → f.slope k ≡ g.slope k) → f.constant ≡ g.constant → IfOk found (λ row. ShowsForm n row f) → IfOk found (λ row. ShowsForm n row g)
-form_as_when (Ok row) n f g slope constant is = form_as n row f g slope constant is
-form_as_when (Err e) n f g slope constant is = is
-
-pub surplus_when : {E : Type 0} (found : Result (List Fraction) E) (program : Program) (box : Bounds) (i n : ℕ) (line : Line) (terms : List Term) (low : List ℕ) (value at_lows first : ℤ) → LineAt program i line → terms ≡ line.terms → low ≡ box.low → n ≡ length program.columns → first ≡ value → at_lows ≡ terms_at terms (slice_index low) → value ≡ at_lows -ℤ line.least → IfOk found (λ row. ShowsForm n row (terms_form first terms)) → IfOk found (λ row. ShowsForm (length program.columns) row (form_at (parts_of program box) (surplus i)))
-surplus_when found program box i n line terms low value at_lows first line_is is_terms is_low is_n is_first is_sum is_value made =
-    let m = length program.columns in
+pub surplus_when : {E : Type 0} (found : Result (List Fraction) E) (program : Program) (box : Bounds) (i : ℕ) (line : Line) (terms : List Term) (low : List ℕ) (value at_lows : ℤ) (slopes given : List ℤ) → LineAt program i line → terms ≡ line.terms → low ≡ box.low → AreSlopes slopes (length program.columns) (factor_of terms) → given ≡ slopes → at_lows ≡ terms_at terms (slice_index low) → value ≡ at_lows -ℤ line.least → IfOk found (λ row. IsWholeRow row value given) → IfOk found (λ row. ShowsForm (length program.columns) row (form_at (parts_of program box) (surplus i)))
+surplus_when found program box i line terms low value at_lows slopes given line_is is_terms is_low are is_given is_sum is_value made =
+    let n = length program.columns in
     let same : terms ≡ terms_of program.rows i = is_terms ∙ sym line_is.terms_is in
-    let columns : All (λ t. t.column < m) terms = subst (λ ts. All (λ t. t.column < m) ts) (sym is_terms) (λ k d p. (line_is.in_range.terms k d p).column) in
-    let sum : at_lows ≡ sum_below m (λ j. factor_of (terms_of program.rows i) j *ℤ pos (slice_index box.low j)) =
-    is_sum ∙ ap (λ (xs : List ℕ). terms_at terms (slice_index xs)) is_low ∙ sym (by_columns m terms (slice_index box.low) columns) ∙ ap (λ ts. sum_below m (λ j. factor_of ts j *ℤ pos (slice_index box.low j))) same in
-    form_as_when found m (terms_form first terms) (form_at (parts_of program box) (surplus i)) (λ k. ap (λ (ts : List Term). factor_of ts k) same)
-    (is_first ∙ is_value ∙ ap (λ z. z -ℤ line.least) sum ∙ ap (λ z. sum_below m (λ j. factor_of (terms_of program.rows i) j *ℤ pos (slice_index box.low j)) -ℤ z) (sym line_is.least_is))
-    (subst (λ (k : ℕ). IfOk found (λ row. ShowsForm k row (terms_form first terms))) is_n made)
+    let columns : All (λ t. t.column < n) terms = subst (λ ts. All (λ t. t.column < n) ts) (sym is_terms) (λ k d p. (line_is.in_range.terms k d p).column) in
+    let sum : at_lows ≡ sum_below n (λ j. factor_of (terms_of program.rows i) j *ℤ pos (slice_index box.low j)) =
+    is_sum ∙ ap (λ (xs : List ℕ). terms_at terms (slice_index xs)) is_low ∙ sym (by_columns n terms (slice_index box.low) columns) ∙ ap (λ ts. sum_below n (λ j. factor_of ts j *ℤ pos (slice_index box.low j))) same in
+    form_when found n value given (form_at (parts_of program box) (surplus i)) made
+    (subst (λ xs. AreSlopes xs n (factor_of (terms_of program.rows i))) (sym is_given) (subst (λ ts. AreSlopes slopes n (factor_of ts)) same are))
+    (is_value ∙ ap (λ z. z -ℤ line.least) sum ∙ ap (λ z. sum_below n (λ j. factor_of (terms_of program.rows i) j *ℤ pos (slice_index box.low j)) -ℤ z) (sym line_is.least_is))
 
 -- the row of a value and one factor
 single_shown : (n place : ℕ) (value slope : ℤ) (one two : List Kept) (first second : Fraction) (m : ℕ) → place < n → m ≡ suc place → IsWhole first value → IsWhole second slope → KeptNext [] one 0 first → KeptNext one two m second → ShowsForm n (all_cells (suc n) two) (single_form value place slope)

@@ -1,8 +1,6 @@
 -- The rows of the start tableau, of whole numbers.
 use Rattle.std.specs.Prelude.{ℕ, ◌≡◌, ◌<◌, suc, List, length, slice_index_or, if◌then◌else◌, ◌==◌, ℤ, pos}
 use Rattle.exact_fraction.specs.declared.fraction.Fraction.{Fraction}
-use Rattle.ip_model.specs.declared.parts.Term.{Term}
-use Rattle.ip_model.specs.Sums.{factor_of}
 use Rattle.exact_simplex.specs.Cells.{cell_of}
 use Rattle.exact_simplex.specs.Tableaus.{Form}
 
@@ -29,7 +27,3 @@ pub record AreSlopes (slopes : List ℤ) (n : ℕ) (slope : ℕ → ℤ) : Type 
 -- the affine function of a value and one slope
 abbrev pub single_form : ℤ → ℕ → ℤ → Form
 single_form value place slope = record { slope = λ j. if j == place then slope else pos 0; constant = value }
-
--- the affine function of a value and the factors of a program row
-abbrev pub terms_form : ℤ → List Term → Form
-terms_form value terms = record { slope = factor_of terms; constant = value }

@@ -1,6 +1,5 @@
 -- The cells that a row of a tableau keeps: those that are not 0, by rising column.
-use Rattle.std.specs.Prelude.{ℕ, ◌≡◌, ◌≢◌, ◌⊎◌, ◌↔◌, ◌<◌, ◌≤◌, ◌%◌, ◌<ℤ◌, ◌==◌, if◌then◌else◌, suc, Bool, IsTrue, List, [], ◌∷◌, length, map, slice_get, Some, pos, All}
-use Rattle.std.specs.Int.{bit_at}
+use Rattle.std.specs.Prelude.{ℕ, ◌≡◌, ◌≢◌, ◌⊎◌, ◌<◌, ◌≤◌, ◌==◌, if◌then◌else◌, suc, List, [], ◌∷◌, length, map, slice_get, Some, pos, All}
 use Rattle.std.specs.List.{range_with_len}
 use Rattle.exact_fraction.specs.declared.fraction.Fraction.{Fraction}
 use Rattle.exact_simplex.specs.Cells.{no_fraction}
@@ -28,16 +27,6 @@ AreBelow most kept = All (λ cell. cell.column < most) kept
 pub record AreKept (size : ℕ) (kept : List Kept) : Type 0 where
   pub rising : IsRising 0 kept
   pub below : AreBelow size kept
-
--- the bit of each kept column is set, where columns that are alike modulo 128 share one
-abbrev pub AreMarked : ℕ → List Kept → Type 0
-AreMarked marks kept = All (λ cell. bit_at marks (cell.column % 128) ≡ 1) kept
-
--- a row of so many columns, with what it knows of its cells: whether the value is below 0, and the marks of its columns
-pub record IsRow (size : ℕ) (below : Bool) (marks : ℕ) (kept : List Kept) : Type 0 where
-  pub are : AreKept size kept
-  pub marked : AreMarked marks kept
-  pub sign : IsTrue below ↔ ((value_of kept 0).num <ℤ pos 0)
 
 -- so many cells lie before the column, and the others from it on
 pub record IsFirstFrom (column : ℕ) (kept : List Kept) (count : ℕ) : Type 0 where

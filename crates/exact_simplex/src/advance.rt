@@ -6,6 +6,8 @@ ghost use Rattle.exact_simplex.specs.Forms.{Parts};
 ghost use Rattle.exact_simplex.specs.Relaxing.{AdvanceGives, FirstBelow, IsFirstBelow, IsReached, IsState};
 ghost use Rattle.exact_simplex.specs.Tableaus.{Scaled};
 
+use crate::merge::taken_at;
+use crate::numbers::is_below_none;
 use crate::picks::{choose, first_candidate};
 use crate::state::{Advance, State};
 use crate::table::Tableau;
@@ -19,7 +21,7 @@ fn first_below(cells: &[TableauRow], rows: u32) -> Option<u32>
     ensures { FirstBelow result cells.now }
 {
     for i in 1..rows {
-        if cells[i as usize].is_below() {
+        if is_below_none(taken_at(cells[i as usize].kept(), 0).0) {
             return Some(i);
         }
     }

@@ -1,8 +1,8 @@
-//! Sums at the low numbers of a box, and the costs.
-ghost use Rattle.std.specs.Prelude.{◌≡◌, ℕ, ◌+◌, ◌*◌, ◌<◌, ◌≤◌, ◌^◌, ◌==◌, ℤ, pos, ◌+ℤ◌, ◌*ℤ◌, unsigned_abs, All, IfOk, if◌then◌else◌, length, slice_index};
+//! Sums at the low numbers of a box, and the slopes of rows.
+ghost use Rattle.std.specs.Prelude.{◌≡◌, ℕ, ◌+◌, ◌*◌, ◌<◌, ◌≤◌, ◌^◌, ◌==◌, ℤ, pos, ◌+ℤ◌, ◌*ℤ◌, unsigned_abs, All, AllPairs, IfOk, if◌then◌else◌, length, slice_index};
 ghost use Rattle.ip_model.specs.Limits.{cost_of};
 ghost use Rattle.ip_model.specs.Points.{IsBoxOf};
-ghost use Rattle.ip_model.specs.Sums.{sum_below, terms_at};
+ghost use Rattle.ip_model.specs.Sums.{factor_of, sum_below, terms_at};
 ghost use Rattle.exact_simplex.specs.Beginning.{AreSlopes};
 
 use ip_model::{Bounds, Column, Program, Term};
@@ -77,6 +77,31 @@ pub fn cost_slopes(alloc: Global, columns: &[Column]) -> Result<Vec<i64>, AllocE
     let mut slopes = Vec::with_capacity(alloc, columns.len())?;
     for column in columns {
         slopes.push(i64::from(column.cost))?;
+    }
+    Ok(slopes)
+}
+
+/// A slope with one more factor.
+fn added(slope: i64, factor: i32) -> i64
+    requires slope { unsigned_abs slope ≤ 2 ^ 30 }
+    requires factor { unsigned_abs factor ≤ 1000 }
+    ensures { result ≡ slope +ℤ factor }
+{
+    slope + i64::from(factor)
+}
+
+/// The factors of a row.
+pub fn factor_slopes(alloc: Global, terms: &[Term], size: usize) -> Result<Vec<i64>, AllocError>
+    requires few { length terms.now ≤ 2048 }
+    requires columns { All (λ t. t.column < size) terms.now }
+    requires factors { All (λ t. unsigned_abs t.factor ≤ 1000) terms.now }
+    ensures { IfOk result (λ slopes. AreSlopes slopes.items size (factor_of terms.now)) }
+{
+    let mut slopes = vec![in alloc; 0i64; size]?;
+    for term in terms {
+        let column = term.column as usize;
+        let sum = added(slopes[column], term.factor);
+        slopes[column] = sum;
     }
     Ok(slopes)
 }

@@ -43,21 +43,21 @@ pub fn shares_of(
     Ok(Some(TableauRow::of(row.size(), shares)))
 }
 
-/// The new row of a row that is not the pivot's, by its cell in the pivot's column: where neither the row nor the shares keep a cell, the new row keeps none.
+/// The new row of a row that is not the pivot's: where neither the row nor the shares keep a cell, the new row keeps none.
 pub fn row_after(
     alloc: Global,
     row: &TableauRow,
     shares: &TableauRow,
     column: usize,
-    factor: Fraction,
     pivot: Fraction,
 ) -> Result<Option<TableauRow>, AllocError>
-    requires factor { factor ≡ cell_of row.now column }
+    requires column { column < length row.now }
     requires shares { length shares.now ≡ length row.now }
     requires pivot { pos 0 <ℤ pivot.num }
     ensures row { IfOk result (λ found. IfSome found (λ new. IsRowAfter new row.now shares.now column pivot)) }
     ensures none { IfOk result (λ found. IfNone found (RowAfterFits row.now shares.now column pivot → ⊥)) }
 {
+    let factor = row.cell(column);
     let mut left = row.kept();
     let mut right = shares.kept();
     let mut new = Vec::with_capacity(alloc, left.len() + right.len())?;
@@ -102,11 +102,10 @@ fn change_of(
     if own {
         return Ok(Some(Some(unit_row(alloc, row.size(), column as u32)?)));
     }
-    let factor = row.cell(column);
-    if is_none(factor) {
+    if is_none(row.cell(column)) {
         return Ok(Some(None));
     }
-    let Some(new) = row_after(alloc, row, shares, column, factor, pivot)? else {
+    let Some(new) = row_after(alloc, row, shares, column, pivot)? else {
         return Ok(None);
     };
     Ok(Some(Some(new)))

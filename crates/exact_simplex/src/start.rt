@@ -1,17 +1,17 @@
 //! The start tableau of a program in a box.
-ghost use Rattle.std.specs.Prelude.{◌≡◌, ℕ, ◌+◌, ◌<◌, ◌≤◌, ◌^◌, ◌-ℤ◌, pos, suc, unsigned_abs, All, AllPairs, IfOk, length, slice_index};
+ghost use Rattle.std.specs.Prelude.{◌≡◌, ℕ, ◌+◌, ◌<◌, ◌≤◌, ◌^◌, ◌-ℤ◌, pos, suc, unsigned_abs, IfOk, length, slice_index};
 ghost use Rattle.ip_model.specs.Points.{IsBoxOf};
-ghost use Rattle.exact_simplex.specs.Beginning.{IsWhole, IsWholeRow, ShowsForm, single_form, terms_form};
+ghost use Rattle.exact_simplex.specs.Beginning.{IsWholeRow, ShowsForm, single_form};
 ghost use Rattle.exact_simplex.specs.Cells.{row_of, Shows};
 ghost use Rattle.exact_simplex.specs.Forms.{costs, form_at, forms_of, parts_of, room, step, surplus};
 ghost use Rattle.exact_simplex.specs.Start.{start_of};
 
-use crate::lows::{cost_slopes, costs_at_lows, terms_at_lows};
+use crate::lows::{cost_slopes, costs_at_lows, factor_slopes, terms_at_lows};
 use crate::merge::keep;
 use crate::table::Tableau;
 use crate::tableau_row::TableauRow;
-use exact_fraction::{Fraction, whole};
-use ip_model::{Bounds, Program, Term};
+use exact_fraction::whole;
+use ip_model::{Bounds, Program};
 use ras_table::List;
 use std::alloc::{AllocError, Global};
 
@@ -43,34 +43,6 @@ fn single_row(
     let mut kept = Vec::with_capacity(alloc, 2)?;
     keep(&mut kept, 0, whole(value))?;
     keep(&mut kept, place + 1, whole(factor))?;
-    Ok(TableauRow::of(columns + 1, kept))
-}
-
-/// The factor of a term.
-fn factor_of(term: &Term) -> Fraction
-    ensures { IsWhole result term.now.factor }
-{
-    whole(i64::from(term.factor))
-}
-
-/// The row of a value and the factors of a program row, whose columns rise.
-fn terms_row(
-    alloc: Global,
-    columns: u32,
-    value: Fraction,
-    terms: &[Term],
-) -> Result<TableauRow, AllocError>
-    requires few { columns < 2 ^ 31 }
-    requires whole { value.den ≡ pos 1 }
-    requires within { All (λ t. t.column < columns) terms.now }
-    requires rising { AllPairs (λ s t. s.column < t.column) terms.now }
-    ensures { IfOk result (λ row. ShowsForm columns row (terms_form value.num terms.now)) }
-{
-    let mut kept = Vec::with_capacity(alloc, terms.len() + 1)?;
-    keep(&mut kept, 0, value)?;
-    for term in terms {
-        keep(&mut kept, term.column + 1, factor_of(term))?;
-    }
     Ok(TableauRow::of(columns + 1, kept))
 }
 
@@ -127,14 +99,16 @@ fn surplus_row(
     requires row { i < length program.now.rows }
     ensures { IfOk result (λ row. ShowsForm (length program.now.columns) row (form_at (parts_of program.now bounds.now) (surplus i))) }
 {
-    let columns = program.columns.len();
+    let columns = program.columns.as_slice();
     let rows = program.rows.as_slice();
     let line = &rows[i];
     let terms = line.terms.as_slice();
+    let slopes = factor_slopes(alloc, terms, columns.len())?;
     let low = bounds.low.as_slice();
     let at_lows = terms_at_lows(terms, low);
     let value = above_least(at_lows, line.least);
-    terms_row(alloc, columns, whole(value), terms)
+    let given = slopes.as_slice();
+    whole_row(alloc, value, given)
 }
 
 /// The row of a column's room below its high number.

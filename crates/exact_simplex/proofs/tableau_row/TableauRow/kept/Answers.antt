@@ -9,8 +9,8 @@ use Rattle.exact_simplex.proofs.tableau_row.TableauRow.kept.Goals as goal
 pub returns-clause-kept : goal.returns-clause-kept
 returns-clause-kept c =
     let size : c.self.inside.size ≡ length c.args.self.now = sym (size_is c.self.inside.size c.self.inside.kept) ∙ ap length c.self.view_is in
-    subst (λ (n : ℕ). AreKept n c.as_slice.result.now) size (subst (λ (xs : List Kept). AreKept c.self.inside.size xs) (sym c.as_slice.ensures.items) c.self.invariant.are)
+    subst (λ (n : ℕ). AreKept n c.as_slice.result.now) size (subst (λ (xs : List Kept). AreKept c.self.inside.size xs) (sym c.as_slice.ensures.items) c.self.invariant)
 
 pub returns-clause-values : goal.returns-clause-values
 returns-clause-values c = λ k.
-    ap (λ (xs : List Kept). value_of xs k) c.as_slice.ensures.items ∙ cell_is c.self.inside.size c.self.inside.kept c.self.invariant.are.below k ∙ ap (λ (xs : List Fraction). cell_of xs k) c.self.view_is
+    ap (λ (xs : List Kept). value_of xs k) c.as_slice.ensures.items ∙ cell_is c.self.inside.size c.self.inside.kept c.self.invariant.below k ∙ ap (λ (xs : List Fraction). cell_of xs k) c.self.view_is
