@@ -11,7 +11,10 @@ use Rattle.plan_view.specs.Bars.{reservations_text}
 use Rattle.plan_view.specs.Escape.{escaped}
 use Rattle.plan_view.specs.Spots.{spots_of}
 use Rattle.plan_view.specs.Squares.{map_text}
-use Rattle.plan_view.specs.declared.TheConstants.{HEAD}
+
+-- the head of a page, up to the colours of the reservations
+abbrev pub head : List ℕ
+head = codes "<!DOCTYPE html>\n<html lang=\"en\"><head><meta charset=\"utf-8\"/><title>Plan</title>\n<style>\nbody{font-family:sans-serif;margin:16px}\nh3{margin:8px 0 0}\np{margin:2px 0}\nsvg{display:block}\n.free{fill:#ddd}\n.moves{stroke:#000;stroke-width:2}\n.down{opacity:0.4}\n"
 
 -- the colour of a reservation: neighbours in number are far apart in hue
 abbrev pub colour_rule : ℕ → List ℕ
@@ -38,4 +41,4 @@ body inputs case =
 
 -- the page of a document, by the case of its files and the verdict on it
 abbrev pub page : Inputs → Case → Verdict → List ℕ
-page inputs case verdict = HEAD.now ++ (colours case ++ (codes "</style></head>\n<body>\n" ++ (said inputs verdict ++ body inputs case)))
+page inputs case verdict = head ++ (colours case ++ (codes "</style></head>\n<body>\n" ++ (said inputs verdict ++ body inputs case)))

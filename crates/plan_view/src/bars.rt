@@ -122,7 +122,7 @@ pub(crate) fn put_reservations(
     plan: Option<&Assignment>,
 ) -> Result<(), AllocError>
     requires { IfSome (option_copied plan) (λ a. IsTrue (fits case.now a)) }
-    ensures { OnOk result (text.new.items ≡ text.old.items ++ reservations_text requests.now case.now (option_copied plan)) }
+    ensures { OnOk result (text.new.items ≡ text.old.items ++ reservations_text requests.now case.now (option_copied plan.entry)) }
 {
     match plan {
         None => text.extend_from_slice(

@@ -15,8 +15,8 @@ use ras_answers::Inputs;
 use ras_texts::verdict_text;
 use std::alloc::{AllocError, Global};
 
-/// The head of a page, up to the colours of the reservations.
-pub const HEAD: &str =
+// The head of a page, up to the colours of the reservations.
+const HEAD: &str =
     "<!DOCTYPE html>\n<html lang=\"en\"><head><meta charset=\"utf-8\"/><title>Plan</title>\n<style>\nbody{font-family:sans-serif;margin:16px}\nh3{margin:8px 0 0}\np{margin:2px 0}\nsvg{display:block}\n.free{fill:#ddd}\n.moves{stroke:#000;stroke-width:2}\n.down{opacity:0.4}\n";
 
 // Adds the colour of a reservation.

@@ -26,7 +26,7 @@ fn held_by(holder: Holder) -> Option<u32>
 
 // The reservation that a server gets: what the plan says, and who holds it where there is no plan.
 fn gets(plan: Option<&Assignment>, i: u32, place: &Place) -> Option<u32>
-    ensures { result ≡ gets (option_copied plan) i place.now }
+    ensures { result ≡ gets (option_copied plan.entry) i place.now }
 {
     match plan {
         Some(plan) => plan.of.as_slice().get(i as usize).copied().unwrap_or(None),
@@ -170,7 +170,7 @@ fn put_squares(
     spots: &Spots,
     board: u32,
 ) -> Result<(), AllocError>
-    ensures { OnOk result (text.new.items ≡ text.old.items ++ squares files.now case.now (option_copied plan) spots.now board) }
+    ensures { OnOk result (text.new.items ≡ text.old.items ++ squares files.now case.now (option_copied plan.entry) spots.now board) }
 {
     let places = case.places.as_slice();
     for (i, place) in places.iter().enumerate() {
@@ -211,7 +211,7 @@ fn put_board(
     spots: &Spots,
     board: u32,
 ) -> Result<(), AllocError>
-    ensures { OnOk result (text.new.items ≡ text.old.items ++ board_text files.now case.now (option_copied plan) spots.now board) }
+    ensures { OnOk result (text.new.items ≡ text.old.items ++ board_text files.now case.now (option_copied plan.entry) spots.now board) }
 {
     text.extend_from_slice(b"<h3>")?;
     put_escaped(text, board_name(&files.region, board).as_bytes())?;
@@ -229,7 +229,7 @@ pub(crate) fn put_map(
     plan: Option<&Assignment>,
     spots: &Spots,
 ) -> Result<(), AllocError>
-    ensures { OnOk result (text.new.items ≡ text.old.items ++ map_text files.now case.now (option_copied plan) spots.now) }
+    ensures { OnOk result (text.new.items ≡ text.old.items ++ map_text files.now case.now (option_copied plan.entry) spots.now) }
 {
     for board in 0..case.boards {
         put_board(text, files, case, plan, spots, board)?;
