@@ -1,5 +1,0 @@
-pub mod EscapeLemmas
-pub mod RankLemmas
-pub mod SpotLemmas
-pub mod TextLemmas
-pub mod ViewLemmas
