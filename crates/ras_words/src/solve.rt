@@ -11,8 +11,7 @@ use clap::{Arg, ArgMatches, Command};
 use ras_table::Word;
 use std::alloc::{AllocError, Global};
 
-/// The wanted gap.
-pub(crate) fn gap_option<'a>(alloc: Global) -> Arg<'a>
+fn gap_option<'a>(alloc: Global) -> Arg<'a>
     ensures rule { rule_of result ≡ numbered (codes "gap") 0 1000000000000 }
     ensures local { result.global ≡ false }
 {
@@ -31,8 +30,7 @@ pub(crate) fn nodes_option<'a>(alloc: Global) -> Arg<'a>
         .value_parser(clap::value_parser!(u64).range(1..=20_000))
 }
 
-/// The most reservations of the rack phase.
-pub(crate) fn racks_option<'a>(alloc: Global) -> Arg<'a>
+fn racks_option<'a>(alloc: Global) -> Arg<'a>
     ensures rule { rule_of result ≡ numbered (codes "racks") 0 64 }
     ensures local { result.global ≡ false }
 {

@@ -1,7 +1,7 @@
 use Rattle.std.proofs.Common.{rules, ◌≡◌, ◌∷◌, [], ◌++◌, string_bytes}
 use Rattle.std.specs.Vec.Iter.{into_iter_items}
-use Rattle.ras_cli.proofs.WordLemmas.{taken, over}
-use Rattle.ras_cli.proofs.line.words_of.Goals as goal
+use Rattle.ras.proofs.Words.{taken, over}
+use Rattle.ras.proofs.words_of.Goals as goal
 
 -- the word that is taken is pushed behind those before it
 pub loop-text-preserved : goal.loop-text-preserved

@@ -1,7 +1,7 @@
 -- The words so far, and those to come, are the words of the line.
 use Rattle.std.proofs.Common.{◌≡◌, ◌≤◌, ◌+◌, ◌++◌, length, map, string_bytes, take}
 use Rattle.std.specs.Vec.Iter.{into_iter_items, into_iter_len}
-use Rattle.ras_cli.proofs.line.words_of.Given as goal
+use Rattle.ras.proofs.words_of.Given as goal
 
 abbrev pub invariant-loop-text : goal.invariant-loop-text
 invariant-loop-text l =
