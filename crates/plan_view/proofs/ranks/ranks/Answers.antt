@@ -50,7 +50,7 @@ loop-key-preserved c =
 pub from_vec-requires : goal.from_vec-requires
 from_vec-requires c =
     let many = ap (λ (l : List ℕ). length l) c.loop-key.invariant.0 ∙ length-map-range_with_len (rank c.as_slice-keys.result.now) 0 c.loop-key.key-index in
-    omega (arith, many, c.as_slice-keys.ensures.few)
+    omega (arith, many, ap (λ (l : List ℕ). length l) c.as_slice-keys.ensures.items, c.as_slice-keys.ensures.few)
 
 pub returns : goal.returns
 returns c =

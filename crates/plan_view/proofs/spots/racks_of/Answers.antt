@@ -10,7 +10,7 @@ from_vec-requires c =
     let all = take_all c.loop-place.place-index c.as_slice-places.result.now (omega arith) in
     let many : length c.loop-place.racks.items ≡ length c.as_slice-places.result.now =
     ap (λ (l : List ℕ). length l) (c.loop-place.invariant ∙ ap racks_of all) ∙ length-map c.as_slice-places.result.now (λ (s : Place). s.rack) in
-    omega (arith, many, c.as_slice-places.ensures.few)
+    omega (arith, many, ap (λ (l : List Place). length l) c.as_slice-places.ensures.items, c.as_slice-places.ensures.few)
 
 pub returns-clause-racks : goal.returns-clause-racks
 returns-clause-racks c =
