@@ -14,6 +14,7 @@ pub use fault::RunFault;
 pub use files::Texts;
 pub use inventories::{FOUR, SIX, THREE, THREE_AND_ONE, TWO, UNBOUND};
 pub use runs::{
-    CHECK, Failing, MOVE, NOTHING, Outcome, SPARE, ran, told, told_by, told_move, told_spare,
+    CHECK, Failing, MOVE, NOTHING, Outcome, SPARE, ran, ran_by, told, told_by, told_move,
+    told_spare,
 };
 pub use solves::{SOLVE, Solved, solve};

@@ -5,7 +5,7 @@ ghost use Rattle.memory_runs.specs.Runs.{IsRun, IsTold, RunsTo, ended, told_text
 
 use crate::fault::RunFault;
 use crate::files::{Texts, are_short, shelf};
-use crate::sinks::{sink, written};
+use crate::sinks::{note_sink, sink, written};
 use ras_cli::run;
 use ras_outside::{MemoryShelf, MemorySink};
 use ras_table::{List, Word};
@@ -90,13 +90,14 @@ fn status_at(
     run(alloc, words, shelf, out, note)
 }
 
-// A run with these words over these files, where this fails.
+// A run with these words over these files, where this fails, and the note too once it has taken so many bytes.
 fn run_over(
     alloc: Global,
     words: Vec<Word>,
     texts: &Texts<'_>,
     last: &str,
     failing: Failing,
+    noting: Option<u32>,
 ) -> Result<Outcome, RunFault>
     ensures { RunsTo (λ o. IsRun (files_in texts.now last.now) words.items (ended o))
         (is_line words.items && are_short texts.now last.now) (files_in texts.now last.now) words.items result }
@@ -107,7 +108,7 @@ fn run_over(
     let words = List::from_vec(words);
     let mut shelf = shelf(alloc, texts, last, failing.read)?;
     let mut out = sink(alloc, failing.put, failing.taken)?;
-    let mut note = sink(alloc, 0, 0)?;
+    let mut note = note_sink(alloc, noting)?;
     let status = status_at(alloc, &words, &mut shelf, &mut out, &mut note);
     let printed = written(alloc, &out)?;
     let noted = written(alloc, &note)?;
@@ -128,9 +129,7 @@ pub fn ran(
     ensures { RunsTo (λ o. IsRun (files_in texts.entry []) (words_in line.now) (ended o))
         (is_line (words_in line.now) && are_short texts.entry []) (files_in texts.entry []) (words_in line.now) result }
 {
-    let mut words = Vec::new(alloc);
-    add(alloc, &mut words, line)?;
-    run_over(alloc, words, &texts, "", failing)
+    ran_by(alloc, line, texts, "", failing, None)
 }
 
 // An outcome as one text.
@@ -156,7 +155,7 @@ fn told_over(
     ensures { RunsTo (λ t. IsTold (files_in texts.now last.now) words.items (string_bytes t))
         (is_line words.items && are_short texts.now last.now) (files_in texts.now last.now) words.items result }
 {
-    let outcome = run_over(alloc, words, texts, last, failing)?;
+    let outcome = run_over(alloc, words, texts, last, failing, None)?;
     Ok(told_of(alloc, &outcome)?)
 }
 
@@ -173,6 +172,24 @@ pub fn told_by(
     let mut words = Vec::new(alloc);
     add(alloc, &mut words, line)?;
     told_over(alloc, words, &texts, "", failing)
+}
+
+/// A run with these words over the four files and `last`, where this fails, and the put of the note too, once it has
+/// taken so many bytes, where a number is given.
+pub fn ran_by(
+    alloc: Global,
+    line: &[&str],
+    texts: Texts<'_>,
+    last: &str,
+    failing: Failing,
+    noting: Option<u32>,
+) -> Result<Outcome, RunFault>
+    ensures { RunsTo (λ o. IsRun (files_in texts.entry last.now) (words_in line.now) (ended o))
+        (is_line (words_in line.now) && are_short texts.entry last.now) (files_in texts.entry last.now) (words_in line.now) result }
+{
+    let mut words = Vec::new(alloc);
+    add(alloc, &mut words, line)?;
+    run_over(alloc, words, &texts, last, failing, noting)
 }
 
 // The words of `check` over the four files.

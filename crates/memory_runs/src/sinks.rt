@@ -19,6 +19,16 @@ pub fn sink(alloc: Global, put: u32, taken: u32) -> Result<MemorySink, AllocErro
     Ok(sink)
 }
 
+/// The same for a note: its put takes so many bytes and fails, where a number is given.
+pub fn note_sink(alloc: Global, taken: Option<u32>) -> Result<MemorySink, AllocError>
+    ensures { IfOk result (λ sink. sink.written ≡ []) }
+{
+    match taken {
+        Some(taken) => sink(alloc, 1, taken),
+        None => sink(alloc, 0, 0),
+    }
+}
+
 /// What was written to a sink, as a text.
 pub fn written(alloc: Global, sink: &MemorySink) -> Result<String, RunFault>
     ensures { IsTextOf sink.now.written result }
