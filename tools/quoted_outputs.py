@@ -88,7 +88,7 @@ def changed(plan, change):
     """The plan after a change of the table of wrong plans."""
     swapped = re.match(r'(\S+) in place of (\S+)', change)
     new, old = swapped.group(1), swapped.group(2).rstrip(",")
-    if old in plan:
+    if old.startswith('"'):
         return plan.replace(old, new, 1)
     member, value = new.split(":")
     plan = re.sub(re.escape(member) + r':"[^"]*"', new, plan, count=1)
