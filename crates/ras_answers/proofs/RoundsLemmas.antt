@@ -18,13 +18,14 @@ use Rattle.rounds_text.proofs.EventFacts.{some-round}
 use Rattle.rounds_text.proofs.RunFacts.{first-more}
 use Rattle.ras_answers.specs.declared.all.CaseFiles.{CaseFiles}
 use Rattle.ras_answers.specs.declared.inputs.InputFault.{InputFault}
+use Rattle.plan_document.specs.declared.document.Answer.{Answer}
 use Rattle.ras_answers.specs.declared.answer.Ending.{Ending}
 use Rattle.ras_answers.specs.declared.rounds.RoundsRun.{RoundsRun}
 use Rattle.ras_answers.specs.declared.rounds.RoundAnswer.TheVariants as given
 use Rattle.ras_answers.specs.Answered.{Invalid}
 use Rattle.ras_answers.specs.Inputs.{AreCaseFiles, SeenCase, case_read, note_in, or_note, script_line, script_read, told, with_note}
 use Rattle.ras_answers.specs.Solve.{region_size, size_answer}
-use Rattle.ras_answers.specs.Rounds.{AreRoundsFiles, AreTexts, ByRoundsNote, Ended, IsBegun, IsTooLarge, Noted, GivesRound, RoundsAnswers, RoundsEnd, StandsAfter, end_with, ending_with, is_limit, last_answer, rounds_ending, rounds_note, some_spent, texts_of}
+use Rattle.ras_answers.specs.Rounds.{AreRoundsFiles, AreTexts, ByRoundsNote, Ended, IsBegun, IsTooLarge, IsOneOn, Noted, GivesRound, RoundsAnswers, RoundsEnd, StandsAfter, end_with, ending_with, is_limit, last_answer, rounds_ending, rounds_note, some_spent, texts_of}
 use Rattle.ras_answers.proofs.InputLemmas.{files-read, first-note, in-note, later-note, seen-files}
 
 -- ---- lists of rounds, one round on
@@ -213,3 +214,26 @@ module _ (i r b s : List ℕ) (options : RoundOptions) (texts : List (List ℕ))
       by false e =
           subst (λ (o : Option Ending). GivesRound i r b s options texts after (given.Printed round.text o)) (sym (same ∙ ap (λ x. end_with x after.spent round.answer) e))
           (ends round after is spent e)
+
+-- ---- one round on
+
+both-right : (a b : Bool) → (a && b) ≡ true → b ≡ true
+both-right true b h = h
+both-right false b h = absurd cc
+
+-- where no end is told, a further round follows
+no-end : (flag spent : Bool) (a : Answer) → None ≡ end_with flag spent a → flag ≡ true
+no-end true spent a h = refl
+no-end false spent a h = absurd cc
+
+-- a round that is not the last one leaves a further one
+pub one-on : (run after : RoundsRun) (round : Round) (spent : Bool) (end : Option Ending) → IsNext run.rounds round after.rounds → end ≡ end_with round.goes_on spent round.answer
+    → IsOneOn run after (given.Printed round.text end)
+one-on run after round spent (Some e) is same = tt
+one-on run after round spent None is same =
+    let goes : round.goes_on ≡ true = no-end round.goes_on spent round.answer same in
+    let more : nat_lt (run.rounds.done + 1) (rounds_of run.rounds.agenda.entries) ≡ true =
+    both-right (is_some is.left) (nat_lt (run.rounds.done + 1) (rounds_of run.rounds.agenda.entries)) (sym is.goes_on ∙ goes) in
+    let below : run.rounds.done + 1 < rounds_of run.rounds.agenda.entries = grind (arith, nat_tests, more) in
+    let entries_same : rounds_of after.rounds.agenda.entries ≡ rounds_of run.rounds.agenda.entries = ap (λ (a : Agenda). rounds_of a.entries) is.agenda in
+    (is.agenda, is.done, omega (arith, is.done, below, entries_same))

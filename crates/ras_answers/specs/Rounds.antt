@@ -1,5 +1,5 @@
 -- What `rounds` answers: the texts of rounds, one after the other, and how the run ends.
-use Rattle.std.specs.Prelude.{ℕ, ◌≡◌, ◌<◌, Bool, true, false, if◌then◌else◌, List, [], ◌∷◌, ◌++◌, length, map, string_bytes, Option, Some, None, IfSome, Result, Ok, Err}
+use Rattle.std.specs.Prelude.{ℕ, ◌≡◌, ◌+◌, ◌<◌, ⊤, Bool, true, false, if◌then◌else◌, List, [], ◌∷◌, ◌++◌, length, map, string_bytes, Option, Some, None, IfSome, Result, Ok, Err}
 use Rattle.std.specs.List.{list_any}
 use Rattle.ras_inventory.specs.RegionRule.{server_names}
 use Rattle.ras_requests.specs.RequestsRule.{reservation_names}
@@ -147,6 +147,13 @@ GivesRound inventory requests bindings script options texts run (given.Printed t
     RoundsAnswers inventory requests bindings script options (texts ++ text.items ∷ []) (Ended end)
 GivesRound inventory requests bindings script options texts run (given.TooLarge note) =
     RoundsAnswers inventory requests bindings script options texts (Noted (string_bytes note))
+
+-- where a round was not the last one, one more was run, and a further one follows
+abbrev pub IsOneOn : RoundsRun → RoundsRun → RoundAnswer → Type 0
+IsOneOn run next (given.Printed text None) =
+    (next.rounds.agenda ≡ run.rounds.agenda) × (next.rounds.done ≡ run.rounds.done + 1) × (next.rounds.done < rounds_of next.rounds.agenda.entries)
+IsOneOn run next (given.Printed text (Some end)) = ⊤
+IsOneOn run next (given.TooLarge note) = ⊤
 
 -- a run over what files and a script say, of which no round was run
 pub record IsBegun (files : CaseFiles) (entries : List Entry) (options : RoundOptions) (run : RoundsRun) : Type 0 where

@@ -3,7 +3,7 @@ ghost use Rattle.std.specs.Prelude.{ℕ, ◌≡◌, ◌<◌, ◌≤◌, ◌*◌,
 ghost use Rattle.rounds_text.specs.Ready.{AreThere, AreWithin};
 ghost use Rattle.rounds_text.specs.Scripts.{rounds_of};
 ghost use Rattle.rounds_text.specs.declared.options.RoundOptions.{RoundOptions};
-ghost use Rattle.ras_answers.specs.Rounds.{BeginsRounds, GivesRound, GivesRoundsFiles, IsBegun, StandsAfter, end_with, ending_with, is_limit};
+ghost use Rattle.ras_answers.specs.Rounds.{BeginsRounds, GivesRound, GivesRoundsFiles, IsBegun, IsOneOn, StandsAfter, end_with, ending_with, is_limit};
 
 use crate::all::CaseFiles;
 use crate::answer::Ending;
@@ -164,9 +164,10 @@ impl RoundsRun {
     /// Memory runs out. Then nothing is said of the run.
     pub fn next(&mut self, alloc: Global) -> Result<RoundAnswer, AllocError>
         requires { self.old.rounds.done < rounds_of self.old.rounds.agenda.entries }
-        ensures { (inventory requests bindings script : List ℕ) (options : RoundOptions) (texts : List (List ℕ))
+        ensures round { (inventory requests bindings script : List ℕ) (options : RoundOptions) (texts : List (List ℕ))
             → StandsAfter inventory requests bindings script options texts self.old
             → IfOk result (GivesRound inventory requests bindings script options texts self.new) }
+        ensures further { IfOk result (IsOneOn self.old self.new) }
     {
         let mut planner = ExactPlanner;
         match self.rounds.next(alloc, &mut planner) {

@@ -1,5 +1,5 @@
 -- Rounds that are put one after another.
-use Rattle.std.proofs.Common.{◌≡◌, ◌∙◌, ℕ, ap, sym, refl, subst, true, false, List, [], ◌∷◌, ◌++◌, length, take, append_assoc, Option, Some, None, Result, Ok, Err, IfOk, inl, inr}
+use Rattle.std.proofs.Common.{◌≡◌, ◌∙◌, ◌+◌, ℕ, ap, sym, refl, subst, true, false, List, [], ◌∷◌, ◌++◌, length, take, append_assoc, Option, Some, None, Result, Ok, Err, IfOk, inl, inr}
 use Rattle.std.specs.Prelude.{◌⊎◌, ⊤, flat_map, string_bytes}
 use Rattle.std.specs.declared.alloc.AllocError.{AllocError}
 use Rattle.std.specs.Io.KnownBytes.{Appends}
@@ -16,7 +16,7 @@ use Rattle.ras_answers.specs.declared.rounds.RoundAnswer.TheVariants as given
 use Rattle.ras_answers.specs.Rounds.{RoundsEnd, Ended, Noted, AreFirstTexts, ByRoundsNote, GivesRound, RoundsAnswers, StandsAfter, rounds_note}
 use Rattle.ras_cli.specs.Asked.{rounds_asked}
 use Rattle.ras_cli.specs.Courses.{AreRounds, Stands}
-use Rattle.ras_cli.specs.Puts.{AllPut, StopsAt}
+use Rattle.ras_cli.specs.Puts.{AllPut, StopsAt, pieces_of}
 use Rattle.ras_cli.proofs.PiecesLemmas.{appends-both}
 
 -- ---- puts after puts
@@ -76,9 +76,18 @@ first-texts i r b s options texts run h =
     record { agenda = run.rounds.agenda; first = h.first; read = h.read; rounds = h.rounds; left = Some run.rounds.case; are = h.are; texts_are = h.texts_are }
 
 pub stands-first : (c : Command) (files texts : List (List ℕ)) (run : RoundsRun) → Stands c files texts run → AreRounds c files texts None
-stands-first c files texts run h =
-    let of = are-of c files texts run h in
-    rw (of.command_is, of.files_are) (first-texts of.inventory of.requests of.bindings of.script (rounds_asked of.words) texts run of.stands)
+stands-first (command.Rounds words) (i ∷ r ∷ b ∷ s ∷ []) texts run h = first-texts i r b s (rounds_asked words) texts run h
+stands-first (command.Rounds words) [] texts run h = absurd h
+stands-first (command.Rounds words) (i ∷ []) texts run h = absurd h
+stands-first (command.Rounds words) (i ∷ r ∷ []) texts run h = absurd h
+stands-first (command.Rounds words) (i ∷ r ∷ b ∷ []) texts run h = absurd h
+stands-first (command.Rounds words) (i ∷ r ∷ b ∷ s ∷ f ∷ files) texts run h = absurd h
+stands-first (command.Check words) files texts run h = absurd h
+stands-first (command.Solve words) files texts run h = absurd h
+stands-first (command.Move words) files texts run h = absurd h
+stands-first (command.Spare words) files texts run h = absurd h
+stands-first (command.Core words) files texts run h = absurd h
+stands-first (command.Sample words) files texts run h = absurd h
 
 cons-nil : (texts : List (List ℕ)) (text : List ℕ) → texts ++ text ∷ [] ≡ [] → ⊥
 cons-nil [] text h = cc
@@ -115,7 +124,41 @@ given-ok words i r b s texts run (Err e) h = tt
 pub next-gives : (c : Command) (files texts : List (List ℕ)) (run next : RoundsRun) (answer : Result RoundAnswer AllocError)
     → ((i r b s : List ℕ) (options : RoundOptions) (texts : List (List ℕ)) → StandsAfter i r b s options texts run → IfOk answer (GivesRound i r b s options texts next))
     → Stands c files texts run → IfOk answer (GivesNext c files texts next)
-next-gives c files texts run next answer gives h =
-    let of = are-of c files texts run h in
-    rw (of.command_is, of.files_are) (given-ok of.words of.inventory of.requests of.bindings of.script texts next answer
-    (gives of.inventory of.requests of.bindings of.script (rounds_asked of.words) texts of.stands))
+next-gives (command.Rounds words) (i ∷ r ∷ b ∷ s ∷ []) texts run next answer gives h =
+    given-ok words i r b s texts next answer (gives i r b s (rounds_asked words) texts h)
+next-gives (command.Rounds words) [] texts run next answer gives h = absurd h
+next-gives (command.Rounds words) (i ∷ []) texts run next answer gives h = absurd h
+next-gives (command.Rounds words) (i ∷ r ∷ []) texts run next answer gives h = absurd h
+next-gives (command.Rounds words) (i ∷ r ∷ b ∷ []) texts run next answer gives h = absurd h
+next-gives (command.Rounds words) (i ∷ r ∷ b ∷ s ∷ f ∷ files) texts run next answer gives h = absurd h
+next-gives (command.Check words) files texts run next answer gives h = absurd h
+next-gives (command.Solve words) files texts run next answer gives h = absurd h
+next-gives (command.Move words) files texts run next answer gives h = absurd h
+next-gives (command.Spare words) files texts run next answer gives h = absurd h
+next-gives (command.Core words) files texts run next answer gives h = absurd h
+next-gives (command.Sample words) files texts run next answer gives h = absurd h
+
+-- ---- the loop: the texts so far were put, and the run stands after them
+pub record PutSoFar {K : Type 0} (puts : K → List ℕ → Result ⊤ SinkFailed → K → Type 0) (written : K → Option (List ℕ)) (start now : K) (c : Command) (files : List (List ℕ)) (run : RoundsRun) : Type 0 where
+  pub texts : List (List ℕ)
+  pub stands : Stands c files texts run
+  pub appended : Appends (written start) (written now) (flat_map (λ text. text) texts)
+  pub put : AllPut puts start (flat_map (pieces_of 4096) texts) now
+
+pub none-put : {K : Type 0} (puts : K → List ℕ → Result ⊤ SinkFailed → K → Type 0) (written : K → Option (List ℕ)) (start : K) (c : Command) (files : List (List ℕ)) (run : RoundsRun)
+    → Appends (written start) (written start) [] → Stands c files [] run → PutSoFar puts written start start c files run
+none-put puts written start c files run same h = record { texts = []; stands = h; appended = same; put = refl }
+
+module _ {K : Type 0} (puts : K → List ℕ → Result ⊤ SinkFailed → K → Type 0) (written : K → Option (List ℕ)) (start now next : K) (c : Command) (files : List (List ℕ)) (run : RoundsRun)
+    (so_far : PutSoFar puts written start now c files run) (text : List ℕ) where
+  more-appended : Appends (written now) (written next) text → Appends (written start) (written next) (flat_map (λ t. t) (so_far.texts ++ text ∷ []))
+  more-appended h = subst (λ (l : List ℕ). Appends (written start) (written next) l) (sym (texts-more (λ t. t) so_far.texts text))
+      (appends-both (written start) (written now) (written next) (flat_map (λ t. t) so_far.texts) text so_far.appended h)
+
+  more-put : AllPut puts now (pieces_of 4096 text) next → AllPut puts start (flat_map (pieces_of 4096) (so_far.texts ++ text ∷ [])) next
+  more-put h = subst (λ (l : List (List ℕ)). AllPut puts start l next) (sym (texts-more (pieces_of 4096) so_far.texts text))
+      (all-both puts (flat_map (pieces_of 4096) so_far.texts) (pieces_of 4096 text) start now next so_far.put h)
+
+  pub one-more : (after : RoundsRun) → Appends (written now) (written next) text → AllPut puts now (pieces_of 4096 text) next → Stands c files (so_far.texts ++ text ∷ []) after
+      → PutSoFar puts written start next c files after
+  one-more after appended put stands = record { texts = so_far.texts ++ text ∷ []; stands = stands; appended = more-appended appended; put = more-put put }
