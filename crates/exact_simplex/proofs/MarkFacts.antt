@@ -1,9 +1,8 @@
 -- The marks of a row's columns.
-use Rattle.std.proofs.Common.{◌≡◌, ◌≢◌, ℕ, ◌+◌, ◌*◌, ◌%◌, ◌^◌, ◌<◌, ◌≤◌, ◌∙◌, refl, sym, subst, arith, List, [], ◌∷◌, length, take, slice_index_or, bit_or, inl, inr}
+use Rattle.std.proofs.Common.{◌≡◌, ℕ, ◌+◌, ◌*◌, ◌%◌, ◌^◌, ◌<◌, ◌∙◌, refl, sym, subst, arith, List, [], ◌∷◌, length, take, slice_index_or, bit_or, inl, inr}
 use Rattle.std.specs.Int.{bit_at, w128}
 use mir.Val.{bits}
 use Rattle.std.proofs.lemmas.Bool.{cases_eq}
-use Rattle.std.proofs.lemmas.List.{take_all}
 use Rattle.std.proofs.lemmas.List.Elements.{All-more, All-tail, All-weaker}
 use Rattle.std.proofs.lemmas.Nat.Bits.{bit_at_set_same, bit_at_set_other}
 use Rattle.exact_simplex.specs.Cells.{no_fraction}

@@ -1,7 +1,8 @@
 -- The row of a program row's factors, made term by term.
-use Rattle.std.proofs.Common.{◌≡◌, ◌≢◌, ℕ, suc, ◌+◌, ◌<◌, ◌≤◌, ◌∙◌, ap, refl, sym, subst, arith, ◌==◌, if◌then◌else◌, List, [], ◌∷◌, length, ℤ, pos, ◌+ℤ◌, inl, inr, All, AllPairs}
+use Rattle.std.proofs.Common.{◌≡◌, ◌≢◌, ℕ, suc, ◌+◌, ◌<◌, ◌≤◌, ◌∙◌, ap, refl, sym, subst, arith, List, [], ◌∷◌, length, drop, get_or, ℤ, pos, ◌+ℤ◌, inl, inr, All, AllPairs}
 use Rattle.std.proofs.lemmas.Int.{ints}
 use Rattle.std.proofs.lemmas.Bool.{cases_eq, cases_lt, eq-eqb, ne_eqb}
+use Rattle.std.proofs.lemmas.List.{drop_more}
 use Rattle.exact_fraction.specs.declared.fraction.Fraction.{Fraction}
 use Rattle.ip_model.specs.declared.parts.Term.{Term}
 use Rattle.ip_model.specs.Sums.{factor_of}
@@ -62,10 +63,10 @@ terms_start n terms new value whole within rises next = record {
   later = λ k p. refl;
 }
 
-pub terms_below : (n : ℕ) (value : ℤ) (terms : List Term) (t : Term) (ts : List Term) (kept : List Kept) (m : ℕ) → m ≡ suc t.column → TermsUpTo n value terms (t ∷ ts) kept → AreBelow m kept
+terms_below : (n : ℕ) (value : ℤ) (terms : List Term) (t : Term) (ts : List Term) (kept : List Kept) (m : ℕ) → m ≡ suc t.column → TermsUpTo n value terms (t ∷ ts) kept → AreBelow m kept
 terms_below n value terms t ts kept m up h = below_more h.from m kept (let first = h.rest_from 0 t (omega arith) in omega arith) h.below
 
-pub terms_next : (n : ℕ) (value : ℤ) (terms : List Term) (t : Term) (ts : List Term) (kept new : List Kept) (cell : Fraction) (m : ℕ) → m ≡ suc t.column → TermsUpTo n value terms (t ∷ ts) kept → IsWhole cell t.factor → KeptNext kept new m cell → TermsUpTo n value terms ts new
+terms_next : (n : ℕ) (value : ℤ) (terms : List Term) (t : Term) (ts : List Term) (kept new : List Kept) (cell : Fraction) (m : ℕ) → m ≡ suc t.column → TermsUpTo n value terms (t ∷ ts) kept → IsWhole cell t.factor → KeptNext kept new m cell → TermsUpTo n value terms ts new
 terms_next n value terms t ts kept new cell m up h is next =
     let first : h.from ≤ suc t.column = h.rest_from 0 t (omega arith) in
     let in_n : t.column < n = h.rest_within 0 t (omega arith) in
@@ -95,6 +96,14 @@ terms_next n value terms t ts kept new cell m up h is next =
       ];
       later = λ k p. sym (skip_factor t ts k (λ e. omega arith)) ∙ h.later k (omega arith);
     }
+
+pub terms_at_below : (n : ℕ) (value : ℤ) (terms : List Term) (i : ℕ) (d : Term) (kept : List Kept) → i < length terms → TermsUpTo n value terms (drop i terms) kept → AreBelow ((get_or terms i d).column + 1) kept
+terms_at_below n value terms i d kept there h =
+    terms_below n value terms (get_or terms i d) (drop (i + 1) terms) kept ((get_or terms i d).column + 1) (omega arith) (subst (λ (xs : List Term). TermsUpTo n value terms xs kept) (drop_more terms i d there) h)
+
+pub terms_at_next : (n : ℕ) (value : ℤ) (terms : List Term) (i : ℕ) (d : Term) (kept new : List Kept) (cell : Fraction) (m : ℕ) → i < length terms → m ≡ suc (get_or terms i d).column → TermsUpTo n value terms (drop i terms) kept → IsWhole cell (get_or terms i d).factor → KeptNext kept new m cell → TermsUpTo n value terms (drop (i + 1) terms) new
+terms_at_next n value terms i d kept new cell m there up h is next =
+    terms_next n value terms (get_or terms i d) (drop (i + 1) terms) kept new cell m up (subst (λ (xs : List Term). TermsUpTo n value terms xs kept) (drop_more terms i d there) h) is next
 
 pub terms_end : (n size : ℕ) (value : ℤ) (terms : List Term) (kept : List Kept) (row : List Fraction) → row ≡ all_cells size kept → size ≡ suc n → TermsUpTo n value terms [] kept → ShowsForm n row (terms_form value terms)
 terms_end n size value terms kept row is_row is_size h =

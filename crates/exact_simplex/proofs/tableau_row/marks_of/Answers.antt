@@ -1,4 +1,4 @@
-use Rattle.std.proofs.Common.{arith, subst, take, List}
+use Rattle.std.proofs.Common.{arith, subst, List}
 use Rattle.std.proofs.lemmas.List.{take_all}
 use Rattle.exact_simplex.specs.Kept.{AreMarked}
 use Rattle.exact_simplex.specs.declared.tableau_row.Kept.{Kept}
