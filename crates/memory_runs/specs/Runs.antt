@@ -1,10 +1,11 @@
 -- What a run over files in memory tells.
-use Rattle.std.specs.Prelude.{ℕ, ◌≡◌, ◌≢◌, ◌++◌, ⊤, Bool, true, false, List, [], take, codes, decimal, string_bytes, None, Some, Result, Ok, Err, IsUtf8}
+use Rattle.std.specs.Prelude.{ℕ, ◌≡◌, ◌≢◌, ◌++◌, ⊤, ◌==◌, ◌&&◌, ◌||◌, ◌⊎◌, Bool, true, false, List, [], take, codes, decimal, string_bytes, None, Some, Result, Ok, Err, IsUtf8}
 use Rattle.std.specs.declared.alloc.Global.{Global}
 use Rattle.std.specs.declared.string.String.{String}
 use Rattle.ras_outside.specs.Held.{Files}
 use Rattle.ras_cli.specs.Asked.{LongerHeld, asked_of, files_asked}
-use Rattle.ras_cli.specs.Runs.{AtAnswer, is_printed, status_of, text_of}
+use Rattle.ras_cli.specs.Courses.{puts_as_made, status_of, text_of}
+use Rattle.ras_cli.specs.Runs.{AtAnswer, has_text, is_printed}
 use Rattle.memory_runs.specs.declared.fault.RunFault.{RunFault}
 use Rattle.memory_runs.specs.declared.fault.RunFault.TheVariants as fault
 use Rattle.memory_runs.specs.declared.runs.Outcome.{Outcome}
@@ -16,13 +17,14 @@ pub record Ended : Type 0 where
   pub noted : List ℕ
 
 -- A run over these files, with these words, may end so. What it prints is the text of the answer; where it fails to
--- write, a front of that text.
+-- write, a front of that text. Of rounds that are broken off the whole texts before are printed.
 pub record IsRun (files : Files) (words : List (List ℕ)) (e : Ended) : Type 0 where
   pub printed : is_printed e.status ≡ true → AtAnswer (Some files) (asked_of words) (λ a. (status_of a ≡ e.status) × (e.printed ≡ text_of a))
   pub silent : is_printed e.status ≡ true → e.noted ≡ []
-  pub unwritten : is_printed e.status ≡ false → e.status ≢ 7 → e.printed ≡ []
-  pub front : e.status ≡ 7 → AtAnswer (Some files) (asked_of words) (λ a. (is_printed (status_of a) ≡ true) × ((n : ℕ) × (e.printed ≡ take n (text_of a))))
-  pub invalid : e.status ≡ 3 → AtAnswer (Some files) (asked_of words) (λ a. status_of a ≡ 3)
+  pub unwritten : is_printed e.status ≡ false → e.status ≢ 7 → (puts_as_made (asked_of words) && (e.status == 3 || e.status == 9)) ≡ false → e.printed ≡ []
+  pub front : e.status ≡ 7 → AtAnswer (Some files) (asked_of words) (λ a. (has_text (status_of a) ≡ true) × ((n : ℕ) × (e.printed ≡ take n (text_of a))))
+  pub invalid : e.status ≡ 3 → AtAnswer (Some files) (asked_of words) (λ a. (status_of a ≡ 3) × (e.printed ≡ text_of a))
+  pub broken : e.status ≡ 9 → (e.printed ≡ []) ⊎ AtAnswer (Some files) (asked_of words) (λ a. (status_of a ≡ 9) × (e.printed ≡ text_of a))
   pub refused : e.status ≡ 2 → asked_of words ≡ None
   pub longer : e.status ≡ 8 → LongerHeld (Some files) (files_asked (asked_of words))
 

@@ -1,6 +1,7 @@
 -- One step more of a run, and its text.
-use Rattle.std.proofs.Common.{◌≡◌, ℕ, ◌+◌, ◌<◌, ◌≤◌, Bool, true, false, cond, List, [], ◌∷◌, ◌++◌, length, take, get_or, sym, ap, ap₂, ◌∙◌, refl, subst, arith, append_assoc}
-use Rattle.std.specs.Prelude.{flat_map, sum_by, count_by, nat_lt}
+use Rattle.std.proofs.Common.{◌≡◌, ℕ, ◌+◌, ◌<◌, ◌≤◌, Bool, true, false, cond, List, [], ◌∷◌, ◌++◌, length, take, get_or, sym, ap, ap₂, ◌∙◌, refl, subst, arith, append_assoc, Result, Ok, Err, Vec, Global}
+use Rattle.std.specs.declared.alloc.AllocError.{AllocError}
+use Rattle.std.specs.Prelude.{flat_map, sum_by, count_by, nat_lt, IfOk}
 use Rattle.std.specs.List.{list_all}
 use Rattle.std.proofs.lemmas.List.Sums.{sum_by_push}
 use Rattle.std.proofs.lemmas.List.Concat.{flat_map-append}
@@ -8,13 +9,14 @@ use Rattle.std.proofs.lemmas.List.{append-nil, take_more}
 use Rattle.online_mover.specs.declared.stands.Command.{Command}
 use Rattle.online_mover.specs.declared.stands.Taken.{Taken as Outcome}
 use Rattle.online_mover.specs.declared.timed.Timed.{Timed}
-use Rattle.online_mover.specs.States.{State}
+use Rattle.online_mover.specs.States.{State, state_rule}
 use Rattle.online_mover.specs.Steps.{IsStep}
-use Rattle.online_mover.proofs.StepProofs.{step-there, step-unique}
+use Rattle.online_mover.proofs.FurtherLaws.{step-targets}
+use Rattle.online_mover.proofs.StepProofs.{step-there, step-unique, step-keeps_rule}
 use Rattle.online_mover.proofs.Sizes.{step-length}
 use Rattle.move_text.specs.Told.{Told, IsTold, is_stale, commands_of, stales_of}
-use Rattle.move_text.specs.Texts.{step_text, steps_text, run_text, IsMoveText, TellsRun}
-use Rattle.move_text.specs.Laws.{MoveTextIsThere, MoveTextIsUnique}
+use Rattle.move_text.specs.Texts.{step_text, steps_text, run_text, TellsRun, IsMoveText, IsMoveTextTo}
+use Rattle.move_text.specs.Laws.{MoveTextIsThere, MoveTextIsUnique, MoveTextEndIsUnique, MoveTextKeepsCase}
 
 told-more : (state mid after : State) (events : List Timed) (steps : List Told) (timed : Timed) (taken : Outcome) (commands : List Command)
     → IsTold state events steps mid → IsStep mid timed.event taken commands after
@@ -81,12 +83,20 @@ told-unique state after other (timed ∷ events) (s ∷ steps) (g ∷ given) h k
 pub text-there : MoveTextIsThere
 text-there servers reservations state events =
     let run = told-there state events in
-    (run_text servers reservations run.0 run.1.0, (run.0, (run.1.0, (run.1.1, refl))))
+    (run_text servers reservations run.0 run.1.0, (run.1.0, (run.0, (run.1.1, refl))))
+
+pub end-unique : MoveTextEndIsUnique
+end-unique servers reservations state after other_after events text other h k =
+    let same = told-unique state after other_after events h.0 k.0 h.1.0 k.1.0 in
+    (h.1.1 ∙ ap₂ (λ (steps : List Told) (end : State). run_text servers reservations steps end) same.0 same.1 ∙ sym k.1.1, same.1)
 
 pub text-unique : MoveTextIsUnique
-text-unique servers reservations state events text other h k =
-    let same = told-unique state h.1.0 k.1.0 events h.0 k.0 h.1.1.0 k.1.1.0 in
-    h.1.1.1 ∙ ap₂ (λ (steps : List Told) (after : State). run_text servers reservations steps after) same.0 same.1 ∙ sym k.1.1.1
+text-unique servers reservations state events text other h k = (end-unique servers reservations state h.0 k.0 events text other h.1 k.1).0
+
+pub text-only : (servers reservations : List (List ℕ)) (state after : State) (events : List Timed) (r : Result (Vec ℕ Global) AllocError)
+    → IfOk r (λ text. IsMoveTextTo servers reservations state events text.items after) → IfOk r (λ text. IsMoveText servers reservations state events text.items)
+text-only servers reservations state after events (Ok text) h = (after, h)
+text-only servers reservations state after events (Err e) h = tt
 
 -- ---- in the words of the loop
 
@@ -96,6 +106,21 @@ told-length state after [] (s ∷ steps) h = absurd h
 told-length state after (e ∷ events) [] h = absurd h
 told-length state after (e ∷ events) (s ∷ steps) h =
     told-length s.after after events steps h.2 ∙ step-length state s.after e.event s.taken s.commands h.1
+
+told-case : (state after : State) (events : List Timed) (steps : List Told) → IsTold state events steps after
+    → (after.case ≡ state.case) × (after.at_once ≡ state.at_once) × (state_rule state ≡ true → state_rule after ≡ true)
+told-case state after [] [] h = (ap (λ (t : State). t.case) h, ap (λ (t : State). t.at_once) h, λ rule. ap state_rule h ∙ rule)
+told-case state after [] (s ∷ steps) h = absurd h
+told-case state after (e ∷ events) [] h = absurd h
+told-case state after (e ∷ events) (s ∷ steps) h =
+    let first = step-targets state s.after e.event s.taken s.commands h.1 in
+    let rest = told-case s.after after events steps h.2 in
+    (rest.0 ∙ first.0, rest.1 ∙ first.1, λ rule. rest.2 (step-keeps_rule state s.after e.event s.taken s.commands rule h.1))
+
+pub end-case : MoveTextKeepsCase
+end-case servers reservations state after events text h =
+    let case = told-case state after events h.0 h.1.0 in
+    (case.0, case.1, told-length state after events h.0 h.1.0, case.2)
 
 pub run-length : (servers reservations : List (List ℕ)) (state after : State) (events : List Timed) (before text : List ℕ) (commands stales : ℕ)
     → TellsRun servers reservations state events after before text commands stales → length after.servers ≡ length state.servers

@@ -28,10 +28,14 @@ abbrev pub run_text : List (List ℕ) → List (List ℕ) → List Told → Stat
 run_text servers reservations steps after =
     steps_text servers reservations steps ++ (ends_text servers reservations after ++ total_line (commands_of steps) (stales_of steps))
 
--- the text of the run from a state over events, by the names of servers and reservations
+-- the text of the run from a state over events to the state after, by the names of servers and reservations
+abbrev pub IsMoveTextTo : List (List ℕ) → List (List ℕ) → State → List Timed → List ℕ → State → Type 0
+IsMoveTextTo servers reservations state events text after =
+    (steps : List Told) × (IsTold state events steps after × (text ≡ run_text servers reservations steps after))
+
+-- and wherever the run leads to
 abbrev pub IsMoveText : List (List ℕ) → List (List ℕ) → State → List Timed → List ℕ → Type 0
-IsMoveText servers reservations state events text =
-    (steps : List Told) × ((after : State) × (IsTold state events steps after × (text ≡ run_text servers reservations steps after)))
+IsMoveText servers reservations state events text = (after : State) × IsMoveTextTo servers reservations state events text after
 
 -- a text grew by the lines of a run, and its commands and stale events were counted
 abbrev pub TellsRun : List (List ℕ) → List (List ℕ) → State → List Timed → State → List ℕ → List ℕ → ℕ → ℕ → Type 0

@@ -7,5 +7,5 @@ mod lines;
 mod runs;
 mod words;
 
-pub use laws::move_text_is_one;
-pub use runs::move_text;
+pub use laws::{move_text_end, move_text_is_one};
+pub use runs::{move_text, run_text};

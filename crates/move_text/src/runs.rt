@@ -8,7 +8,7 @@ ghost use Rattle.plan_model.specs.Units.{servers_with_places};
 ghost use Rattle.online_mover.specs.Events.{event_within};
 ghost use Rattle.online_mover.specs.States.{state_at_start};
 ghost use Rattle.online_mover.specs.Changes.{commanded};
-ghost use Rattle.move_text.specs.Texts.{step_text, TellsRun, IsMoveText};
+ghost use Rattle.move_text.specs.Texts.{step_text, TellsRun, IsMoveText, IsMoveTextTo};
 
 use crate::lines::{put_commands, put_ends, put_stale, put_total};
 use itoa::Buffer;
@@ -88,28 +88,30 @@ fn put_steps(
     Ok(totals)
 }
 
-// The text of the run of a mover over events.
-fn run_text(
+/// The text of the run of a mover over events, from where its servers are now: a line for each command and each event that was
+/// not lawful, then a line for each server at which a cause stands, in the order of the region, and last the totals. The mover
+/// is then where the events brought it. After want of memory it is a mover still, and nothing is said of where its servers are.
+pub fn run_text(
     alloc: Global,
     region: &Region,
     requests: &Requests,
-    mut mover: Mover,
+    mover: &mut Mover,
     events: &List<Timed>,
 ) -> Result<Vec<u8>, AllocError>
-    requires servers { length mover.servers ≡ length region.now.servers }
+    requires servers { length mover.old.servers ≡ length region.now.servers }
     requires there { list_all (λ timed. event_within (length region.now.servers) timed.event) events.now ≡ true }
-    ensures { IfOk result (λ text. IsMoveText (server_names region.now.servers) (reservation_names requests.now.list) mover events.now text.items) }
+    ensures { IfOk result (λ text.
+        IsMoveTextTo (server_names region.now.servers) (reservation_names requests.now.list) mover.old events.now text.items mover.new) }
 {
     let mut text = Vec::new(alloc);
-    let totals = put_steps(alloc, &mut text, region, requests, &mut mover, events)?;
-    put_ends(&mut text, region, requests, &mover)?;
+    let totals = put_steps(alloc, &mut text, region, requests, mover, events)?;
+    put_ends(&mut text, region, requests, mover)?;
     put_total(&mut text, totals.commands, totals.stales)?;
     Ok(text)
 }
 
 /// The text of the moves from where the servers of a case are to a target, over events, with at most `at_once` servers in
-/// flight: a line for each command and each event that was not lawful, then a line for each server at which a cause stands, in
-/// the order of the region, and last the totals.
+/// flight: that of the run of a mover that starts there.
 pub fn move_text(
     alloc: Global,
     region: &Region,
@@ -128,6 +130,6 @@ pub fn move_text(
     ensures { IfOk result (λ text.
         IsMoveText (server_names region.now.servers) (reservation_names requests.now.list) (state_at_start case.now target.now at_once) events.now text.items) }
 {
-    let mover = Mover::start(alloc, case, target, at_once)?;
-    run_text(alloc, region, requests, mover, events)
+    let mut mover = Mover::start(alloc, case, target, at_once)?;
+    run_text(alloc, region, requests, &mut mover, events)
 }

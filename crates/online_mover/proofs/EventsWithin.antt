@@ -25,7 +25,7 @@ use Rattle.online_mover.specs.declared.fault.EventsFault.TheVariants.{At}
 use Rattle.online_mover.specs.declared.fault.EventsWhy.TheVariants.{Head}
 use Rattle.online_mover.specs.declared.fault.EventsWhy.{EventsWhy}
 use Rattle.online_mover.specs.Events.{event_within}
-use Rattle.online_mover.specs.EventRows.{kinds, heads, names_nothing, server_in, event_of, broken_rule, unless_broken, with_event, with_word, word_in, whole_in, timed_of}
+use Rattle.online_mover.specs.EventRows.{kinds, heads, names_nothing, server_in, event_of, broken_rule, unless_broken, known, with_event, with_word, word_in, event_in, whole_in, timed_of}
 use Rattle.ras_table.specs.Answers.{Gives}
 use Rattle.std.specs.Prelude.{IfOk}
 use Rattle.online_mover.specs.EventFiles.{told, numbered, timed_in, timed_at, and_then, events_from, events_in, events_of}
@@ -72,17 +72,22 @@ unless-within : (n : ℕ) (t timed : Timed) (o : Option EventsWhy) → event_wit
 unless-within n t timed None here h = sym (ap (λ (x : Timed). event_within n x.event) (ok-same {T = Timed} {E = EventsWhy} t timed h)) ∙ here
 unless-within n t timed (Some w) here h = absurd (err-ok {T = Timed} {E = EventsWhy} w timed h)
 
-with_event-within : (n : ℕ) (before : List Timed) (at : ℕ) (o : Option Event) (timed : Timed) → ((e : Event) → o ≡ Some e → event_within n e ≡ true)
-    → with_event before at o ≡ Ok timed → event_within n timed.event ≡ true
-with_event-within n before at None timed k h = absurd (err-ok {T = Timed} {E = EventsWhy} _ timed h)
-with_event-within n before at (Some e) timed k h = unless-within n (record { at = at; event = e }) timed (broken_rule before at) (k e refl) h
+known-within : (names : List (List ℕ)) (w : Word) (c : Option Cell) (o : Option Event) (e : Event) → event_of names w c ≡ o → known o ≡ Ok e → event_within (length names) e ≡ true
+known-within names w c None e is h = absurd (err-ok {T = Event} {E = EventsWhy} _ e h)
+known-within names w c (Some x) e is h = event_of-within names w c e (is ∙ ap Some (ok-same {T = Event} {E = EventsWhy} x e h))
 
-with_word-within : (names : List (List ℕ)) (before : List Timed) (cells : List Cell) (o : Option Word) (timed : Timed)
-    → with_word names before cells o ≡ Ok timed → event_within (length names) timed.event ≡ true
-with_word-within names before cells None timed h = absurd (err-ok {T = Timed} {E = EventsWhy} _ timed h)
-with_word-within names before cells (Some w) timed h =
-    with_event-within (length names) before (whole_in (slice_get cells 0)) (event_of names w (slice_get cells 2)) timed
-    (λ e k. event_of-within names w (slice_get cells 2) e k) h
+with_word-within : (names : List (List ℕ)) (c : Option Cell) (o : Option Word) (e : Event) → with_word names c o ≡ Ok e → event_within (length names) e ≡ true
+with_word-within names c None e h = absurd (err-ok {T = Event} {E = EventsWhy} _ e h)
+with_word-within names c (Some w) e h = known-within names w c (event_of names w c) e refl h
+
+-- the event of a row is of a server that the region has
+pub event_in-within : (names : List (List ℕ)) (cells : List Cell) (e : Event) → event_in names cells ≡ Ok e → event_within (length names) e ≡ true
+event_in-within names cells e h = with_word-within names (slice_get cells 2) (word_in (slice_get cells 1)) e h
+
+with_event-within : (n : ℕ) (before : List Timed) (at : ℕ) (r : Result Event EventsWhy) (timed : Timed) → ((e : Event) → r ≡ Ok e → event_within n e ≡ true)
+    → with_event before at r ≡ Ok timed → event_within n timed.event ≡ true
+with_event-within n before at (Err w) timed k h = absurd (err-ok {T = Timed} {E = EventsWhy} w timed h)
+with_event-within n before at (Ok e) timed k h = unless-within n (record { at = at; event = e }) timed (broken_rule before at) (k e refl) h
 
 numbered-same : (number : ℕ) (r : Result Timed EventsWhy) (timed : Timed) → numbered number r ≡ Ok timed → r ≡ Ok timed
 numbered-same number (Ok t) timed h = ap Ok (ok-same {T = Timed} {E = EventsFault} t timed h)
@@ -91,7 +96,8 @@ numbered-same number (Err w) timed h = absurd (err-ok {T = Timed} {E = EventsFau
 timed_in-within : (names : List (List ℕ)) (number : ℕ) (before : List Timed) (row : Result (List Cell) RowFault) (timed : Timed)
     → timed_in names number before row ≡ Ok timed → event_within (length names) timed.event ≡ true
 timed_in-within names number before (Ok cells) timed h =
-    with_word-within names before cells (word_in (slice_get cells 1)) timed (numbered-same number (timed_of names before cells) timed h)
+    with_event-within (length names) before (whole_in (slice_get cells 0)) (event_in names cells) timed (event_in-within names cells)
+    (numbered-same number (timed_of names before cells) timed h)
 timed_in-within names number before (Err f) timed h = absurd (err-ok {T = Timed} {E = EventsFault} _ timed h)
 
 abbrev AreWithin : ℕ → List Timed → Type 0

@@ -75,6 +75,18 @@ event_of names word.JoinFailed c = option_map event.JoinFailed (server_in names 
 event_of names word.Down c = option_map event.Down (server_in names c)
 event_of names word.Up c = option_map event.Up (server_in names c)
 
+-- the event of a row by its word and its server, or the first rule that they break
+abbrev pub known : Option Event → Result Event EventsWhy
+known None = Err why.Unknown
+known (Some e) = Ok e
+
+abbrev pub with_word : List (List ℕ) → Option Cell → Option Word → Result Event EventsWhy
+with_word names server None = Err why.Word
+with_word names server (Some w) = known (event_of names w server)
+
+abbrev pub event_in : List (List ℕ) → List Cell → Result Event EventsWhy
+event_in names cells = with_word names (slice_get cells 2) (word_in (slice_get cells 1))
+
 -- times do not go back, and there are at most 100,000 events
 abbrev pub is_too_early : List Timed → ℕ → Bool
 is_too_early before at = option_map_or (λ last. nat_lt at last.at) (slice_get before (length before - 1)) false
@@ -82,18 +94,14 @@ is_too_early before at = option_map_or (λ last. nat_lt at last.at) (slice_get b
 abbrev pub broken_rule : List Timed → ℕ → Option EventsWhy
 broken_rule before at = if is_too_early before at then Some why.Order else if nat_le 100000 (length before) then Some why.Many else None
 
--- the event of a row, or the first rule that it breaks
+-- the event of a row with its time, or the first rule that it breaks
 abbrev pub unless_broken : Timed → Option EventsWhy → Result Timed EventsWhy
 unless_broken timed None = Ok timed
 unless_broken timed (Some w) = Err w
 
-abbrev pub with_event : List Timed → ℕ → Option Event → Result Timed EventsWhy
-with_event before at None = Err why.Unknown
-with_event before at (Some e) = unless_broken (record { at = at; event = e }) (broken_rule before at)
-
-abbrev pub with_word : List (List ℕ) → List Timed → List Cell → Option Word → Result Timed EventsWhy
-with_word names before cells None = Err why.Word
-with_word names before cells (Some w) = with_event before (whole_in (slice_get cells 0)) (event_of names w (slice_get cells 2))
+abbrev pub with_event : List Timed → ℕ → Result Event EventsWhy → Result Timed EventsWhy
+with_event before at (Ok e) = unless_broken (record { at = at; event = e }) (broken_rule before at)
+with_event before at (Err w) = Err w
 
 abbrev pub timed_of : List (List ℕ) → List Timed → List Cell → Result Timed EventsWhy
-timed_of names before cells = with_word names before cells (word_in (slice_get cells 1))
+timed_of names before cells = with_event before (whole_in (slice_get cells 0)) (event_in names cells)

@@ -19,11 +19,12 @@ pub use events::read_events;
 pub use fault::{EventsFault, EventsWhy};
 pub use laws::{
     every_run, none_ready_after_step, ready_is_lawful, replan_keeps_protection, rests_at_target,
-    step_is_bounded, step_is_one, step_keeps_protection, step_keeps_rule, step_keeps_targets,
+    run_keeps_case, step_is_bounded, step_is_one, step_keeps_protection, step_keeps_rule,
+    step_keeps_targets,
 };
 pub use mover::Mover;
 pub use stands::{Cause, Command, Event, Stand, Taken};
-pub use timed::Timed;
+pub use timed::{Timed, event_in, whole_in};
 
 #[cfg(test)]
 mod tests;

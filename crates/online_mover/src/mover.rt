@@ -104,6 +104,14 @@ impl Mover {
         self.counting.keeps_need(r)
     }
 
+    /// Every mover keeps the rule of a state. This changes nothing.
+    pub fn keeps_rule(&self)
+        ensures { IsTrue (state_rule self.now) }
+    {
+        // A mover that is read shows its rule.
+        let _at_once = self.at_once;
+    }
+
     /// How many servers are in flight.
     fn in_flight(&self) -> u32
         ensures count { result ≡ in_flight_of self.now }

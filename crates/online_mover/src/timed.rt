@@ -1,7 +1,7 @@
-ghost use Rattle.std.specs.Prelude.{◌≡◌, slice_get};
+ghost use Rattle.std.specs.Prelude.{◌≡◌};
 ghost use Rattle.std.specs.Option.{option_copied};
 ghost use Rattle.ras_inventory.specs.RegionRule.{server_names};
-ghost use Rattle.online_mover.specs.EventRows.{word_of, word_in, whole_in, names_nothing, server_in, event_of, broken_rule, timed_of};
+ghost use Rattle.online_mover.specs.EventRows.{word_of, word_in, whole_in, names_nothing, server_in, event_of, event_in, broken_rule, timed_of};
 
 use crate::fault::EventsWhy;
 use crate::stands::Event;
@@ -61,8 +61,8 @@ fn word_in(cell: Option<&Cell>) -> Option<Word>
     }
 }
 
-// The whole number in a cell.
-fn whole_in(cell: Option<&Cell>) -> u64
+/// The whole number in a cell, and 0 where the cell holds none.
+pub fn whole_in(cell: Option<&Cell>) -> u64
     ensures { result ≡ whole_in (option_copied cell.entry) }
 {
     match cell {
@@ -111,6 +111,20 @@ fn event_of(region: &Region, word: Word, cell: Option<&Cell>) -> Option<Event>
     }
 }
 
+/// The event of a row that has its word in column 1 and its server in column 2. `Word` comes where the word is none of those of
+/// events, and else `Unknown` where a tick names a server, or another event names none that the region has.
+pub fn event_in(region: &Region, row: &Row<3>) -> Result<Event, EventsWhy>
+    ensures { result ≡ event_in (server_names region.now.servers) row.now }
+{
+    let Some(word) = word_in(row.cell(1)) else {
+        return Err(EventsWhy::Word);
+    };
+    match event_of(region, word, row.cell(2)) {
+        Some(event) => Ok(event),
+        None => Err(EventsWhy::Unknown),
+    }
+}
+
 // The first rule that an event breaks, after the events before it.
 fn broken_rule(before: &[Timed], at: u64) -> Option<EventsWhy>
     ensures { result ≡ broken_rule before.now at }
@@ -130,12 +144,7 @@ pub(crate) fn timed_of(region: &Region, before: &[Timed], row: &Row<3>) -> Resul
     ensures { result ≡ timed_of (server_names region.now.servers) before.now row.now }
 {
     let at = whole_in(row.cell(0));
-    let Some(word) = word_in(row.cell(1)) else {
-        return Err(EventsWhy::Word);
-    };
-    let Some(event) = event_of(region, word, row.cell(2)) else {
-        return Err(EventsWhy::Unknown);
-    };
+    let event = event_in(region, row)?;
     match broken_rule(before, at) {
         Some(why) => Err(why),
         None => Ok(Timed { at, event }),

@@ -9,3 +9,4 @@ pub mod Written
 pub mod SolvedNodes
 pub mod SolvedParts
 pub mod Solutions
+pub mod TargetFacts

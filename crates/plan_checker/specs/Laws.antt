@@ -1,12 +1,14 @@
--- What it means that no reason holds.
-use Rattle.std.specs.Prelude.{◌≡◌, ℕ, List, length, None}
+-- What it means that no reason holds, and that a document is accepted.
+use Rattle.std.specs.Prelude.{◌≡◌, ℕ, true, List, length, None, IfSome}
 use Rattle.plan_model.specs.declared.cases.Case.{Case}
+use Rattle.plan_model.specs.Allowed.{region_allowed}
 use Rattle.plan_document.specs.declared.document.Document.{Document}
 use Rattle.plan_document.specs.Writable.{CanBeWritten}
 use Rattle.plan_checker.specs.Reasons.{first_reason}
 use Rattle.plan_checker.specs.Shape.{HasShape}
 use Rattle.plan_checker.specs.Headline.{KeepsPromises}
 use Rattle.plan_checker.specs.Accepted.{IsAccepted}
+use Rattle.plan_checker.specs.Target.{target_of}
 
 -- a document for which no reason holds keeps its promises
 abbrev pub NoReasonKeepsPromises : Type 0
@@ -24,3 +26,7 @@ abbrev pub WrittenHasShape : Type 0
 WrittenHasShape =
     (case : Case) (servers reservations : List (List ℕ)) (document : Document) → length servers ≡ length case.places → length reservations ≡ length case.wants
     → CanBeWritten servers reservations document → HasShape case document
+
+-- where an accepted document puts the servers is allowed
+abbrev pub TargetIsAllowed : Type 0
+TargetIsAllowed = (case : Case) (document : Document) → HasShape case document → IsAccepted case document → IfSome (target_of document) (λ target. region_allowed case target ≡ true)

@@ -8,3 +8,4 @@ pub mod Causes
 pub mod Solved
 pub mod Racks
 pub mod Solution
+pub mod Target

@@ -1,5 +1,5 @@
 //! Laws of the definitions.
-ghost use Rattle.plan_checker.specs.Laws.{AcceptedHasNoReason, NoReasonIsAccepted, NoReasonKeepsPromises, WrittenHasShape};
+ghost use Rattle.plan_checker.specs.Laws.{AcceptedHasNoReason, NoReasonIsAccepted, NoReasonKeepsPromises, TargetIsAllowed, WrittenHasShape};
 
 /// A document for which no reason holds keeps its promises: its plans are allowed, state their cost, and no allowed
 /// assignment of single servers costs less by more than the stated gap. Where it says that there is no plan, no
@@ -18,4 +18,9 @@ pub fn no_reason_means_accepted()
 /// A document that was read over the region and the requests of a case has the shape that `check` asks for.
 pub fn written_has_shape()
     ensures { WrittenHasShape }
+{}
+
+/// Where an accepted document puts the servers is allowed in its case: it fits and serves the case, and keeps each need.
+pub fn target_is_allowed()
+    ensures { TargetIsAllowed }
 {}

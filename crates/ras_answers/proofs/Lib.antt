@@ -7,3 +7,4 @@ pub mod TargetLemmas
 pub mod SolveLemmas
 pub mod CoreLemmas
 pub mod SampleLemmas
+pub mod RoundsLemmas

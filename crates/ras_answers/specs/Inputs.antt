@@ -17,13 +17,17 @@ use Rattle.online_mover.specs.declared.timed.Timed.{Timed}
 use Rattle.online_mover.specs.declared.fault.EventsFault.{EventsFault}
 use Rattle.online_mover.specs.declared.fault.EventsFault.TheVariants as events
 use Rattle.online_mover.specs.EventFiles.{events_of}
+use Rattle.ras_rounds.specs.declared.entries.Entry.{Entry}
+use Rattle.ras_rounds.specs.declared.fault.ScriptFault.{ScriptFault}
+use Rattle.ras_rounds.specs.declared.fault.ScriptFault.TheVariants as script
+use Rattle.ras_rounds.specs.Scripts.{script_of}
 use Rattle.spare_pool.specs.declared.failure.Failure.{Failure}
 use Rattle.spare_pool.specs.declared.fault.FailuresFault.{FailuresFault}
 use Rattle.spare_pool.specs.declared.fault.FailuresFault.TheVariants as failures
 use Rattle.spare_pool.specs.FailureFiles.{failures_of}
 use Rattle.ras_inventory.specs.RegionRule.{server_names}
 use Rattle.ras_requests.specs.RequestsRule.{reservation_names}
-use Rattle.ras_texts.specs.Notes.{region_note, bindings_note, requests_note, document_note, events_note, failures_note}
+use Rattle.ras_texts.specs.Notes.{region_note, bindings_note, requests_note, document_note, events_note, failures_note, script_note}
 use Rattle.ras_answers.specs.declared.all.CaseFiles.{CaseFiles}
 use Rattle.ras_answers.specs.declared.inputs.InputFault.{InputFault}
 use Rattle.ras_answers.specs.declared.inputs.InputFault.TheVariants as fault
@@ -59,12 +63,17 @@ abbrev pub events_line : EventsFault → List ℕ
 events_line (events.At line why) = events_note line why ++ codes "\n"
 events_line events.Memory = []
 
+abbrev pub script_line : ScriptFault → List ℕ
+script_line (script.At line why) = script_note line why ++ codes "\n"
+script_line script.Memory = []
+
 abbrev pub failures_line : FailuresFault → List ℕ
 failures_line (failures.At line why) = failures_note line why ++ codes "\n"
 failures_line failures.Memory = []
 
 -- the region of an inventory, the requests of a file, the bindings of a file over names of servers, the document of a
--- file over names of servers and reservations, and the events and the failures of a file over names of servers
+-- file over names of servers and reservations, and the events, the script and
+-- the failures of a file over names of servers
 abbrev pub inventory_read : List ℕ → Result Regional (List ℕ)
 inventory_read bytes = with_note region_line (region_of bytes)
 
@@ -79,6 +88,9 @@ document_read servers reservations bytes = with_note document_line (document_of 
 
 abbrev pub events_read : List (List ℕ) → List ℕ → Result (List Timed) (List ℕ)
 events_read servers bytes = with_note events_line (events_of servers bytes)
+
+abbrev pub script_read : List (List ℕ) → List ℕ → Result (List Entry) (List ℕ)
+script_read servers bytes = with_note script_line (script_of servers bytes)
 
 abbrev pub failures_read : List (List ℕ) → List ℕ → Result (List Failure) (List ℕ)
 failures_read servers bytes = with_note failures_line (failures_of servers bytes)

@@ -8,3 +8,4 @@ pub mod Spare
 pub mod Sample
 pub mod Solve
 pub mod Cores
+pub mod Rounds

@@ -1,30 +1,16 @@
 -- What a command answers that takes an accepted plan to where the servers are to be.
-use Rattle.std.specs.Prelude.{ℕ, ◌≡◌, List, codes, Option, Some, None, option_and_then, option_map, Result, Ok, Err}
+use Rattle.std.specs.Prelude.{ℕ, ◌≡◌, List, codes, Option, Some, None, Result, Ok, Err}
 use Rattle.ras_inventory.specs.RegionRule.{server_names}
 use Rattle.plan_model.specs.declared.cases.Assignment.{Assignment}
 use Rattle.plan_model.specs.declared.cases.Case.{Case}
-use Rattle.plan_document.specs.declared.document.Document.{Document}
-use Rattle.plan_document.specs.declared.part.Planned.{Planned}
 use Rattle.plan_checker.specs.declared.verdict.Verdict.{Verdict}
 use Rattle.plan_checker.specs.declared.verdict.Verdict.TheVariants.{Yes, No}
+use Rattle.plan_checker.specs.Target.{target_of}
 use Rattle.ras_answers.specs.declared.all.Inputs.{Inputs}
 use Rattle.ras_answers.specs.declared.answer.Ending.TheVariants as ending
 use Rattle.ras_answers.specs.Answered.{Answered, Printed, Invalid}
 use Rattle.ras_answers.specs.Check.{AreRead, IsJudged, verdict_answer}
 use Rattle.ras_answers.specs.Inputs.{invalid_note}
-
--- the assignment that a plan has
-abbrev pub planned_of : Option Planned → Option Assignment
-planned_of plan = option_map (λ p. p.of) plan
-
--- the first that is there
-abbrev pub first_of : {A : Type 0} → Option A → Option A → Option A
-first_of (Some x) other = Some x
-first_of None other = other
-
--- where the servers are to be: the assignment of the part of the racks where it has one, else that of the region's part
-abbrev pub target_of : Document → Option Assignment
-target_of document = first_of (option_and_then (λ rack. planned_of rack.part.plan) document.rack) (planned_of document.region.plan)
 
 -- that there is no such assignment
 abbrev pub no_target : Answered

@@ -66,13 +66,13 @@ pub(crate) fn printed(
 
 /// The case of files, and the verdict on their document.
 #[derive(Drop)]
-pub(crate) struct Judged {
+pub struct Judged {
     pub case: Case,
     pub verdict: Verdict,
 }
 
 /// The case of the files, and the verdict on the document in it.
-pub(crate) fn judge(alloc: Global, inputs: &Inputs) -> Result<Judged, AllocError>
+pub fn judge(alloc: Global, inputs: &Inputs) -> Result<Judged, AllocError>
     requires each { length inputs.now.files.bindings.of ≡ length inputs.now.files.region.servers }
     requires shape { (case : Case) → length (server_names inputs.now.files.region.servers) ≡ length case.places
         → length (reservation_names inputs.now.files.requests.list) ≡ length case.wants → HasShape case inputs.now.document }

@@ -8,16 +8,19 @@ ghost use Rattle.ras_inventory.specs.Regions.{seen as seen_region};
 ghost use Rattle.ras_requests.specs.RequestsRule.{reservation_names};
 ghost use Rattle.ras_requests.specs.Requested.{seen as seen_requests};
 ghost use Rattle.plan_document.specs.Documents.{seen_document};
-ghost use Rattle.ras_answers.specs.Inputs.{GivesCaseFiles, bindings_read, document_read, events_read, failures_read, inventory_read, requests_read, told};
+ghost use Rattle.ras_answers.specs.Inputs.{GivesCaseFiles, bindings_read, document_read, events_read, failures_read, inventory_read, requests_read, script_read, told};
+ghost use Rattle.rounds_text.specs.Ready.{AreThere};
 
 use crate::all::CaseFiles;
 use online_mover::{EventsFault, Timed, read_events};
 use plan_document::{DocFault, Document, read_document};
 use ras_inventory::{Bindings, BindingsFault, Region, RegionFault, read_bindings, read_region};
 use ras_requests::{Requests, RequestsFault, read_requests};
+use ras_rounds::{Entry, ScriptFault, read_script};
 use ras_table::List;
 use ras_texts::{
     bindings_note, document_note, events_note, failures_note, region_note, requests_note,
+    script_note,
 };
 use spare_pool::{Failure, FailuresFault, read_failures};
 use std::alloc::{AllocError, Global};
@@ -142,6 +145,19 @@ pub fn events_in(alloc: Global, region: &Region, bytes: &[u8]) -> Result<List<Ti
         Ok(events) => Ok(events),
         Err(EventsFault::At { line, why }) => Err(line_of(events_note(alloc, line, &why))),
         Err(EventsFault::Memory) => Err(InputFault::Memory),
+    }
+}
+
+/// The entries of a script over a region, or the note on their first fault.
+pub fn script_in(alloc: Global, region: &Region, bytes: &[u8]) -> Result<List<Entry>, InputFault>
+    requires { length bytes.now ≤ 64 * 2 ^ 20 }
+    ensures entries { Gives (λ entries. entries) told result (script_read (server_names region.now.servers) bytes.now) }
+    ensures there { IfOk result (AreThere (length region.now.servers)) }
+{
+    match read_script(alloc, region, bytes) {
+        Ok(entries) => Ok(entries),
+        Err(ScriptFault::At { line, why }) => Err(line_of(script_note(alloc, line, &why))),
+        Err(ScriptFault::Memory) => Err(InputFault::Memory),
     }
 }
 

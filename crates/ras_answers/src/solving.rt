@@ -1,8 +1,8 @@
-ghost use Rattle.std.specs.Prelude.{◌≡◌, ◌≤◌, ◌*◌, ◌^◌, IfOk, Some, length};
+ghost use Rattle.std.specs.Prelude.{◌≡◌, ◌≤◌, ◌*◌, ◌^◌, IfOk, Some, length, string_bytes};
 ghost use Rattle.ras_inventory.specs.RegionRule.{server_names};
 ghost use Rattle.ras_requests.specs.RequestsRule.{reservation_names};
 ghost use Rattle.plan_document.specs.Writable.{CanBeWritten};
-ghost use Rattle.ras_answers.specs.Answered.{seen};
+ghost use Rattle.ras_answers.specs.Answered.{Invalid, seen};
 ghost use Rattle.ras_answers.specs.Solve.{IsPrinted, IsSolveOf, SolveAnswers, ending_at, size_answer};
 
 use crate::all::CaseFiles;
@@ -37,9 +37,9 @@ pub(crate) fn ending_at(answer: plan_document::Answer) -> Ending
     }
 }
 
-/// The note on a program that is too large.
-pub(crate) fn too_large(alloc: Global, fault: SizeFault) -> Result<Answer, AllocError>
-    ensures { IfOk result (λ answer. size_answer fault ≡ Some (seen answer)) }
+/// The note on a program that is too large, as a line.
+pub(crate) fn size_note(alloc: Global, fault: SizeFault) -> Result<String, AllocError>
+    ensures { IfOk result (λ note. size_answer fault ≡ Some (Invalid (string_bytes note))) }
 {
     let mut note = match fault {
         SizeFault::Columns(columns) => columns_note(alloc, columns)?,
@@ -47,6 +47,14 @@ pub(crate) fn too_large(alloc: Global, fault: SizeFault) -> Result<Answer, Alloc
         SizeFault::Memory => return Err(AllocError),
     };
     note.push_str("\n")?;
+    Ok(note)
+}
+
+/// What is answered where a program is too large.
+pub(crate) fn too_large(alloc: Global, fault: SizeFault) -> Result<Answer, AllocError>
+    ensures { IfOk result (λ answer. size_answer fault ≡ Some (seen answer)) }
+{
+    let note = size_note(alloc, fault)?;
     Ok(Answer::Invalid { note })
 }
 

@@ -4,13 +4,16 @@ use Rattle.ras_outside.specs.Causes.{Rose}
 use Rattle.ras_outside.specs.Held.{Files, file_at}
 use Rattle.ras_words.specs.Rows.{Refusal}
 use Rattle.ras_words.specs.Words.{command_of}
+use Rattle.ras_words.specs.declared.command.RoundsWords.{RoundsWords}
 use Rattle.ras_words.specs.declared.command.SolveWords.{SolveWords}
 use Rattle.ras_words.specs.declared.command.Command.{Command}
 use Rattle.ras_words.specs.declared.command.Command.TheVariants as command
-use Rattle.ras_answers.specs.Answered.{Answered}
+use Rattle.rounds_text.specs.declared.options.RoundOptions.{RoundOptions}
+use Rattle.ras_answers.specs.Answered.{Answered, Printed, Invalid}
 use Rattle.ras_answers.specs.Check.{CheckAnswers}
 use Rattle.ras_answers.specs.Cores.{CoreAnswers}
 use Rattle.ras_answers.specs.Move.{MoveAnswers}
+use Rattle.ras_answers.specs.Rounds.{Noted, RoundsAnswers}
 use Rattle.ras_answers.specs.Sample.{SampleAnswers}
 use Rattle.ras_answers.specs.Solve.{SolveAnswers}
 use Rattle.ras_answers.specs.Spare.{SpareAnswers}
@@ -33,6 +36,8 @@ files_of (command.Move words) =
 files_of (command.Spare words) =
     (words.inventory, 16777216) ∷ (words.requests, 16777216) ∷ (words.bindings, 16777216) ∷ (words.plan, 67108864) ∷ (words.failures, 16777216) ∷ []
 files_of (command.Core words) = (words.inventory, 16777216) ∷ (words.requests, 16777216) ∷ (words.bindings, 16777216) ∷ []
+files_of (command.Rounds words) =
+    (words.inventory, 16777216) ∷ (words.requests, 16777216) ∷ (words.bindings, 16777216) ∷ (words.script, 16777216) ∷ []
 files_of (command.Sample words) = []
 
 -- the files of what is asked for, and none where the words are not taken
@@ -44,6 +49,15 @@ files_asked (Some c) = files_of c
 abbrev pub options_of : SolveWords → Options
 options_of words = record { gap = words.gap; nodes = words.nodes; racks = words.racks }
 
+-- what is asked of each round
+abbrev pub rounds_asked : RoundsWords → RoundOptions
+rounds_asked words = record { gap = words.gap; nodes = words.nodes; racks = words.racks; at_once = words.at_once }
+
+-- what `rounds` answers before its first round: a note, where a file is not valid
+abbrev pub NotesRounds : List ℕ → List ℕ → List ℕ → List ℕ → RoundOptions → Answered → Type 0
+NotesRounds inventory requests bindings script options (Printed e text) = ⊥
+NotesRounds inventory requests bindings script options (Invalid note) = RoundsAnswers inventory requests bindings script options [] (Noted note)
+
 -- what a command answers to the bytes of its files
 abbrev pub Answers : Command → List (List ℕ) → Answered → Type 0
 Answers (command.Check words) (inventory ∷ requests ∷ bindings ∷ plan ∷ []) a = CheckAnswers inventory requests bindings plan a
@@ -51,6 +65,7 @@ Answers (command.Solve words) (inventory ∷ requests ∷ bindings ∷ []) a = S
 Answers (command.Move words) (inventory ∷ requests ∷ bindings ∷ plan ∷ events ∷ []) a = MoveAnswers inventory requests bindings plan events words.at_once a
 Answers (command.Spare words) (inventory ∷ requests ∷ bindings ∷ plan ∷ failures ∷ []) a = SpareAnswers inventory requests bindings plan failures a
 Answers (command.Core words) (inventory ∷ requests ∷ bindings ∷ []) a = CoreAnswers inventory requests bindings words.nodes a
+Answers (command.Rounds words) (inventory ∷ requests ∷ bindings ∷ script ∷ []) a = NotesRounds inventory requests bindings script (rounds_asked words) a
 Answers (command.Sample words) [] a = SampleAnswers words.number words.size a
 Answers c texts a = ⊥
 

@@ -29,5 +29,6 @@ Headline held (Some (command.Solve words)) = ⊤
 Headline held (Some (command.Move words)) = ⊤
 Headline held (Some (command.Spare words)) = ⊤
 Headline held (Some (command.Core words)) = ⊤
+Headline held (Some (command.Rounds words)) = ⊤
 Headline held (Some (command.Sample words)) = ⊤
 Headline held None = ⊤

@@ -4,8 +4,8 @@ use Rattle.std.specs.declared.alloc.Global.{Global}
 use Rattle.ras_outside.specs.declared.shelf.ShelfFault.{ShelfFault}
 use Rattle.ras_outside.specs.declared.shelf.ShelfFault.TheVariants as fault
 use Rattle.ras_words.specs.declared.command.Command.{Command}
-use Rattle.ras_answers.specs.Answered.{Answered}
-use Rattle.ras_cli.specs.Asked.{Answers, files_of}
+use Rattle.ras_cli.specs.Asked.{files_of}
+use Rattle.ras_cli.specs.Courses.{Course, Takes}
 
 -- each file was read once, in this order, and these are the bytes
 abbrev pub AllRead : {S : Type 0} → (S → List ℕ → ℕ → Result (Vec ℕ Global) ShelfFault → S → Type 0) → S → List (List ℕ × ℕ) → List (Vec ℕ Global) → S → Type 0
@@ -31,11 +31,11 @@ ReadsInOrder reads s names (Err fault.Memory) t = SomeRead reads s names t
 ReadsInOrder reads s names (Err fault.Failed) t = EndsAt reads s names fault.Failed t
 ReadsInOrder reads s names (Err fault.Long) t = EndsAt reads s names fault.Long t
 
--- the command's files were read, and this is an answer to the bytes that the shelf gave
-abbrev pub AnswersRead : {S : Type 0} → (S → List ℕ → ℕ → Result (Vec ℕ Global) ShelfFault → S → Type 0) → S → Command → Answered → S → Type 0
-AnswersRead reads s c a t = (files : List (Vec ℕ Global)) × AllRead reads s (files_of c) files t × Answers c (map (λ f. f.items) files) a
+-- the command's files were read, and P is true of the bytes that the shelf gave
+abbrev pub FilesRead : {S : Type 0} → (S → List ℕ → ℕ → Result (Vec ℕ Global) ShelfFault → S → Type 0) → S → Command → S → (List (List ℕ) → Type 0) → Type 0
+FilesRead reads s c t P = (files : List (Vec ℕ Global)) × AllRead reads s (files_of c) files t × P (map (λ f. f.items) files)
 
--- The words are taken, the files that they name were read, and P is true of an answer to the bytes that the shelf gave.
-abbrev pub AtRead : {S : Type 0} → (S → List ℕ → ℕ → Result (Vec ℕ Global) ShelfFault → S → Type 0) → S → Option Command → S → (Answered → Type 0) → Type 0
+-- The words are taken, the files that they name were read, and P is true of a course over the bytes that the shelf gave.
+abbrev pub AtRead : {S : Type 0} → (S → List ℕ → ℕ → Result (Vec ℕ Global) ShelfFault → S → Type 0) → S → Option Command → S → (Course → Type 0) → Type 0
 AtRead reads s None t P = ⊥
-AtRead reads s (Some c) t P = (a : Answered) × AnswersRead reads s c a t × P a
+AtRead reads s (Some c) t P = FilesRead reads s c t (λ texts. (a : Course) × Takes c texts a × P a)

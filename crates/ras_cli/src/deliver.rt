@@ -3,7 +3,8 @@ ghost use Rattle.std.specs.Io.KnownBytes.{Appends};
 ghost use Rattle.ras_outside.specs.Causes.{Rose, AppendsSome};
 ghost use Rattle.ras_answers.specs.Answered.{code_of, seen};
 ghost use Rattle.ras_cli.specs.Puts.{AllPut, PutOnce, StopsAt, pieces_of};
-ghost use Rattle.ras_cli.specs.Runs.{Tells, is_printed, note_of, status_of, text_of};
+ghost use Rattle.ras_cli.specs.Courses.{answer_note, answer_status, answer_text};
+ghost use Rattle.ras_cli.specs.Runs.{Tells, is_printed};
 
 use crate::note::tell;
 use crate::output::put_all;
@@ -32,16 +33,16 @@ fn print_text<K: Sink, E: Sink>(ending: Ending, text: &[u8], out: &mut K, note: 
 
 /// Prints the text of an answer, or tells the note on what is not valid, and gives the status.
 pub fn deliver<K: Sink, E: Sink>(answer: &Answer, out: &mut K, note: &mut E) -> u8
-    ensures printed { is_printed result ≡ true → (status_of (seen answer.now) ≡ result) × Appends (K.written out.old) (K.written out.new) (text_of (seen answer.now)) }
+    ensures printed { is_printed result ≡ true → (answer_status (seen answer.now) ≡ result) × Appends (K.written out.old) (K.written out.new) (answer_text (seen answer.now)) }
     ensures kept { is_printed result ≡ true → K.faults out.new ≡ K.faults out.old }
-    ensures pieces { is_printed result ≡ true → AllPut K.puts out.old (pieces_of 4096 (text_of (seen answer.now))) out.new }
-    ensures stops { result ≡ 7 → StopsAt K.puts out.old (pieces_of 4096 (text_of (seen answer.now))) out.new }
-    ensures once_invalid { result ≡ 3 → PutOnce E.puts note.old (note_of (seen answer.now)) note.new }
+    ensures pieces { is_printed result ≡ true → AllPut K.puts out.old (pieces_of 4096 (answer_text (seen answer.now))) out.new }
+    ensures stops { result ≡ 7 → StopsAt K.puts out.old (pieces_of 4096 (answer_text (seen answer.now))) out.new }
+    ensures once_invalid { result ≡ 3 → PutOnce E.puts note.old (answer_note (seen answer.now)) note.new }
     ensures once_write { result ≡ 7 → PutOnce E.puts note.old (codes "ras: write failed\n") note.new }
     ensures silent { is_printed result ≡ true → note.new ≡ note.old }
-    ensures invalid { result ≡ 3 → (status_of (seen answer.now) ≡ 3)
-        × Tells (E.faults note.old) (E.faults note.new) (E.written note.old) (E.written note.new) (note_of (seen answer.now)) × (out.new ≡ out.old) }
-    ensures prefix { result ≡ 7 → (is_printed (status_of (seen answer.now)) ≡ true) × AppendsSome (K.written out.old) (K.written out.new) (text_of (seen answer.now)) }
+    ensures invalid { result ≡ 3 → (answer_status (seen answer.now) ≡ 3)
+        × Tells (E.faults note.old) (E.faults note.new) (E.written note.old) (E.written note.new) (answer_note (seen answer.now)) × (out.new ≡ out.old) }
+    ensures prefix { result ≡ 7 → (is_printed (answer_status (seen answer.now)) ≡ true) × AppendsSome (K.written out.old) (K.written out.new) (answer_text (seen answer.now)) }
     ensures cause { result ≡ 7 → Rose (K.faults out.old) (K.faults out.new) }
     ensures told { result ≡ 7 → Tells (E.faults note.old) (E.faults note.new) (E.written note.old) (E.written note.new) (codes "ras: write failed\n") }
     ensures known { (is_printed result ≡ true) ⊎ (result ≡ 3) ⊎ (result ≡ 7) }

@@ -14,8 +14,8 @@ const FILE_MOST: usize = 16 * 1024 * 1024;
 /// The most bytes of a plan document: 64 MiB.
 const PLAN_MOST: usize = 64 * 1024 * 1024;
 
-// A file that is no plan document.
-fn file(word: &Word) -> Named<'_>
+/// A file that is no plan document, with its limit of 16 MiB.
+pub fn file(word: &Word) -> Named<'_>
     ensures { limited result ≡ (word.now, 16777216) }
 {
     Named {
@@ -24,8 +24,8 @@ fn file(word: &Word) -> Named<'_>
     }
 }
 
-// A plan document.
-fn plan(word: &Word) -> Named<'_>
+/// A plan document, with its limit of 64 MiB.
+pub fn plan(word: &Word) -> Named<'_>
     ensures { limited result ≡ (word.now, 67108864) }
 {
     Named {
@@ -69,6 +69,12 @@ pub fn named_files<'a>(alloc: Global, command: &'a Command) -> Result<Vec<Named<
             file(&words.inventory),
             file(&words.requests),
             file(&words.bindings),
+        ]?),
+        Command::Rounds(words) => Ok(vec![in alloc;
+            file(&words.inventory),
+            file(&words.requests),
+            file(&words.bindings),
+            file(&words.script),
         ]?),
         Command::Sample(_) => Ok(Vec::new(alloc)),
     }

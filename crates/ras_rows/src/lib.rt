@@ -1,4 +1,4 @@
-//! Worked examples of `ras check`, `ras solve`, `ras core` and `ras sample` over files in memory: the status, the text and the note of each run.
+//! Worked examples of `ras check`, `ras solve`, `ras core`, `ras rounds` and `ras sample` over files in memory: the status, the text and the note of each run.
 #![tactic(auto)]
 
 #[cfg(test)]
@@ -31,6 +31,8 @@ mod racks;
 mod readers;
 #[cfg(test)]
 mod regions;
+#[cfg(test)]
+mod rounds;
 #[cfg(test)]
 mod runs;
 #[cfg(test)]

@@ -10,6 +10,9 @@ name_at names n = slice_index_or names n []
 abbrev pub server_name : Region → ℕ → List ℕ
 server_name region s = name_at (map (λ s. s.name) region.servers) s
 
+abbrev pub rack_name : Region → ℕ → List ℕ
+rack_name region rack = name_at region.racks rack
+
 abbrev pub board_name : Region → ℕ → List ℕ
 board_name region board = name_at region.boards board
 

@@ -65,6 +65,10 @@ events_why events.Many = codes "many"
 abbrev pub events_note : ℕ → EventsWhy → List ℕ
 events_note line why = codes "ras: events: line " ++ (decimal line ++ (codes ": " ++ events_why why))
 
+-- a script of rounds is refused in the words of events
+abbrev pub script_note : ℕ → EventsWhy → List ℕ
+script_note line why = codes "ras: script: line " ++ (decimal line ++ (codes ": " ++ events_why why))
+
 abbrev pub failures_why : FailuresWhy → List ℕ
 failures_why failures.Head = codes "head"
 failures_why (failures.Row fault) = row_text fault

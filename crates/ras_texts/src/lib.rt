@@ -8,9 +8,10 @@ mod samples;
 mod sets;
 mod verdicts;
 
+pub use names::{board_name, rack_name, reservation_name, server_name};
 pub use notes::{
     bindings_note, columns_note, document_note, events_note, failures_note, region_note,
-    requests_note, rows_note,
+    requests_note, rows_note, script_note,
 };
 pub use samples::sample_text;
 pub use sets::put_line;

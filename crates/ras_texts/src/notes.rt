@@ -1,6 +1,6 @@
 //! The notes on files that are not valid, and on programs that are too large.
 ghost use Rattle.std.specs.Prelude.{◌≡◌, IfOk, string_bytes};
-ghost use Rattle.ras_texts.specs.Notes.{bindings_note, bindings_why, columns_note, document_note, document_why, events_note, events_why, failures_note, failures_why, place_text, region_note, region_why, requests_note, requests_why, row_text, rows_note};
+ghost use Rattle.ras_texts.specs.Notes.{bindings_note, bindings_why, columns_note, document_note, document_why, events_note, events_why, failures_note, failures_why, place_text, region_note, region_why, requests_note, requests_why, row_text, rows_note, script_note};
 
 use online_mover::EventsWhy;
 use plan_document::{DocPlace, DocWhy};
@@ -140,6 +140,14 @@ pub fn events_note(alloc: Global, line: u32, why: &EventsWhy) -> Result<String, 
 {
     let why = events_why(alloc, why)?;
     format!(in alloc; "ras: events: line {line}: {why}")
+}
+
+/// The note on a script of rounds: the line, and why it is refused, in the words of events.
+pub fn script_note(alloc: Global, line: u32, why: &EventsWhy) -> Result<String, AllocError>
+    ensures { IfOk result (λ text. string_bytes text ≡ script_note line why.now) }
+{
+    let why = events_why(alloc, why)?;
+    format!(in alloc; "ras: script: line {line}: {why}")
 }
 
 // Why a line of failures is refused.

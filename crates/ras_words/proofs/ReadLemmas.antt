@@ -6,7 +6,7 @@ use Rattle.clap.specs.declared.error.kind.ErrorKind.TheVariants.{OutOfMemory}
 use Rattle.clap.specs.declared.error.Error.{Error}
 use Rattle.clap.proofs.OnLiterals.{clap_on_literals}
 use Rattle.ras_words.specs.Rows.{Refusal, Refused, unless_fault, rows_read, told, with_rows}
-use Rattle.ras_words.specs.Words.{check_app, solve_app, move_app, spare_app, core_app, sample_app}
+use Rattle.ras_words.specs.Words.{check_app, solve_app, move_app, spare_app, core_app, rounds_app, sample_app}
 use Rattle.ras_words.specs.declared.command.WordsFault.{WordsFault}
 
 -- the commands are simple, by computing
@@ -49,6 +49,14 @@ core-free = refl
 pub core-simple : is_simple core_app ≡ true
 unfolding clap_on_literals
 core-simple = refl
+
+pub rounds-free : is_simple_and_free rounds_app ≡ true
+unfolding clap_on_literals
+rounds-free = refl
+
+pub rounds-simple : is_simple rounds_app ≡ true
+unfolding clap_on_literals
+rounds-simple = refl
 
 pub sample-free : is_simple_and_free sample_app ≡ true
 unfolding clap_on_literals

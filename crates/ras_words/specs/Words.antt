@@ -8,6 +8,7 @@ use Rattle.ras_words.specs.declared.command.SolveWords.{SolveWords}
 use Rattle.ras_words.specs.declared.command.MoveWords.{MoveWords}
 use Rattle.ras_words.specs.declared.command.SpareWords.{SpareWords}
 use Rattle.ras_words.specs.declared.command.CoreWords.{CoreWords}
+use Rattle.ras_words.specs.declared.command.RoundsWords.{RoundsWords}
 use Rattle.ras_words.specs.declared.command.SampleWords.{SampleWords}
 use Rattle.ras_words.specs.declared.command.Command.{Command}
 use Rattle.ras_words.specs.declared.command.Command.TheVariants as command
@@ -89,6 +90,25 @@ core_words rows = record {
   nodes = number_in (codes "nodes") 1 20000 100 rows;
 }
 
+-- `rounds INVENTORY REQUESTS BINDINGS SCRIPT [--gap N] [--nodes N] [--racks N] [--at-once N]`
+abbrev pub rounds_app : App
+rounds_app =
+    with_rule (with_rule (with_rule (with_rule (with_rule (files_app (codes "rounds")) (needed (codes "SCRIPT"))) (numbered (codes "gap") 0 1000000000000))
+    (numbered (codes "nodes") 1 20000)) (numbered (codes "racks") 0 64)) (numbered (codes "at-once") 1 64)
+
+-- the words of `rounds`
+abbrev pub rounds_words : List Row → RoundsWords
+rounds_words rows = record {
+  inventory = value_of (codes "INVENTORY") rows;
+  requests = value_of (codes "REQUESTS") rows;
+  bindings = value_of (codes "BINDINGS") rows;
+  script = value_of (codes "SCRIPT") rows;
+  gap = number_in (codes "gap") 0 1000000000000 0 rows;
+  nodes = number_in (codes "nodes") 1 20000 100 rows;
+  racks = number_in (codes "racks") 0 64 4 rows;
+  at_once = number_in (codes "at-once") 1 64 8 rows;
+}
+
 -- `sample NUMBER SIZE`
 abbrev pub sample_app : App
 sample_app = with_rule (with_rule (new_app (codes "sample")) (needed_number (codes "NUMBER") 0 65536)) (needed_number (codes "SIZE") 2 40)
@@ -97,16 +117,22 @@ sample_app = with_rule (with_rule (new_app (codes "sample")) (needed_number (cod
 abbrev pub sample_words : List Row → SampleWords
 sample_words rows = record { number = number_in (codes "NUMBER") 0 65536 0 rows; size = number_in (codes "SIZE") 2 40 2 rows }
 
--- what the words from a command's name on ask for
+-- what the words from a command's name on ask for, by the commands that make plans
+abbrev pub named_planning : Text → List Text → Result Command Refusal
+named_planning name words =
+    if bytes_eq name (codes "solve") then with_rows (λ rows. command.Solve (solve_words rows)) (rows_read solve_app words)
+    else if bytes_eq name (codes "core") then with_rows (λ rows. command.Core (core_words rows)) (rows_read core_app words)
+    else if bytes_eq name (codes "rounds") then with_rows (λ rows. command.Rounds (rounds_words rows)) (rows_read rounds_app words)
+    else if bytes_eq name (codes "sample") then with_rows (λ rows. command.Sample (sample_words rows)) (rows_read sample_app words)
+    else Err NoCommand
+
+-- and by all commands
 abbrev pub named : Text → List Text → Result Command Refusal
 named name words =
     if bytes_eq name (codes "check") then with_rows (λ rows. command.Check (check_words rows)) (rows_read check_app words)
-    else if bytes_eq name (codes "solve") then with_rows (λ rows. command.Solve (solve_words rows)) (rows_read solve_app words)
     else if bytes_eq name (codes "move") then with_rows (λ rows. command.Move (move_words rows)) (rows_read move_app words)
     else if bytes_eq name (codes "spare") then with_rows (λ rows. command.Spare (spare_words rows)) (rows_read spare_app words)
-    else if bytes_eq name (codes "core") then with_rows (λ rows. command.Core (core_words rows)) (rows_read core_app words)
-    else if bytes_eq name (codes "sample") then with_rows (λ rows. command.Sample (sample_words rows)) (rows_read sample_app words)
-    else Err NoCommand
+    else named_planning name words
 
 -- what the words ask for: the first is the program's name, and the second names the command
 abbrev pub command_of : List Text → Result Command Refusal
@@ -121,4 +147,6 @@ InRanges (command.Solve words) = (words.gap ≤ 1000000000000) × (1 ≤ words.n
 InRanges (command.Move words) = (1 ≤ words.at_once) × (words.at_once ≤ 64)
 InRanges (command.Spare words) = ⊤
 InRanges (command.Core words) = (1 ≤ words.nodes) × (words.nodes ≤ 20000)
+InRanges (command.Rounds words) =
+    (words.gap ≤ 1000000000000) × (1 ≤ words.nodes) × (words.nodes ≤ 20000) × (words.racks ≤ 64) × (1 ≤ words.at_once) × (words.at_once ≤ 64)
 InRanges (command.Sample words) = (words.number ≤ 65536) × (2 ≤ words.size) × (words.size ≤ 40)

@@ -56,6 +56,23 @@ pub struct CoreWords {
     pub nodes: u32,
 }
 
+/// The files that `rounds` reads, and its options.
+#[derive(Debug, Drop)]
+pub struct RoundsWords {
+    pub inventory: Word,
+    pub requests: Word,
+    pub bindings: Word,
+    pub script: Word,
+    /// The wanted gap of each round, 0 to 1,000,000,000,000.
+    pub gap: u64,
+    /// The most nodes of one phase's tree, 1 to 20,000.
+    pub nodes: u32,
+    /// The most reservations of the rack phase, 0 to 64.
+    pub racks: u32,
+    /// The most moves in flight, 1 to 64.
+    pub at_once: u32,
+}
+
 /// The numbers of `sample`.
 #[derive(Clone, Copy, Debug)]
 pub struct SampleWords {
@@ -73,6 +90,7 @@ pub enum Command {
     Move(MoveWords),
     Spare(SpareWords),
     Core(CoreWords),
+    Rounds(RoundsWords),
     Sample(SampleWords),
 }
 

@@ -7,11 +7,13 @@ mod cores;
 mod matches;
 mod moves;
 mod read;
+mod rounds;
 mod sample;
 mod solve;
 mod spare;
 
 pub use command::{
-    CheckWords, Command, CoreWords, MoveWords, SampleWords, SolveWords, SpareWords, WordsFault,
+    CheckWords, Command, CoreWords, MoveWords, RoundsWords, SampleWords, SolveWords, SpareWords,
+    WordsFault,
 };
 pub use read::read_words;

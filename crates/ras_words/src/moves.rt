@@ -11,7 +11,8 @@ use clap::{Arg, ArgMatches, Command};
 use ras_table::Word;
 use std::alloc::{AllocError, Global};
 
-fn at_once_option<'a>(alloc: Global) -> Arg<'a>
+/// The most moves in flight.
+pub(crate) fn at_once_option<'a>(alloc: Global) -> Arg<'a>
     ensures rule { rule_of result ≡ numbered (codes "at-once") 1 64 }
     ensures local { result.global ≡ false }
 {

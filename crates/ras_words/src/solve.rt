@@ -11,7 +11,8 @@ use clap::{Arg, ArgMatches, Command};
 use ras_table::Word;
 use std::alloc::{AllocError, Global};
 
-fn gap_option<'a>(alloc: Global) -> Arg<'a>
+/// The wanted gap.
+pub(crate) fn gap_option<'a>(alloc: Global) -> Arg<'a>
     ensures rule { rule_of result ≡ numbered (codes "gap") 0 1000000000000 }
     ensures local { result.global ≡ false }
 {
@@ -30,7 +31,8 @@ pub(crate) fn nodes_option<'a>(alloc: Global) -> Arg<'a>
         .value_parser(clap::value_parser!(u64).range(1..=20_000))
 }
 
-fn racks_option<'a>(alloc: Global) -> Arg<'a>
+/// The most reservations of the rack phase.
+pub(crate) fn racks_option<'a>(alloc: Global) -> Arg<'a>
     ensures rule { rule_of result ≡ numbered (codes "racks") 0 64 }
     ensures local { result.global ≡ false }
 {

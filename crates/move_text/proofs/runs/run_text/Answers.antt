@@ -10,7 +10,7 @@ use Rattle.move_text.proofs.runs.run_text.Goals as goal
 
 pub put_ends-requires : goal.put_ends-requires
 put_ends-requires c =
-    sym (run-length (server_names c.args.region.now.servers) (reservation_names c.args.requests.now.list) c.args.mover c.put_steps.new.mover c.args.events.now
+    sym (run-length (server_names c.args.region.now.servers) (reservation_names c.args.requests.now.list) c.args.mover.now c.put_steps.new.mover c.args.events.now
     c.new-text.result.items c.put_steps.new.text.items c.in_ok-totals.totals.commands c.in_ok-totals.totals.stales c.in_ok-totals.ensures ∙ c.requires.servers)
 
 pub returns : goal.returns
@@ -20,13 +20,10 @@ returns c =
     let told = c.in_ok-totals.ensures in (
       told.0,
       (
-        c.put_steps.new.mover,
-        (
-          told.1.0,
-          three-joined c.new-text.result.items c.put_steps.new.text.items c.put_ends.new.text.items c.put_total.new.text.items
-              (steps_text servers reservations told.0) (ends_text servers reservations c.put_steps.new.mover) (total_line (commands_of told.0) (stales_of told.0))
-              c.new-text.ensures.items told.1.1 c.in_ok-put_ends.ensures
-              (c.in_ok-put_total.ensures ∙ ap₂ (λ (n m : ℕ). c.put_ends.new.text.items ++ total_line n m) told.1.2 told.1.3),
-        ),
+        told.1.0,
+        three-joined c.new-text.result.items c.put_steps.new.text.items c.put_ends.new.text.items c.put_total.new.text.items
+            (steps_text servers reservations told.0) (ends_text servers reservations c.put_steps.new.mover) (total_line (commands_of told.0) (stales_of told.0))
+            c.new-text.ensures.items told.1.1 c.in_ok-put_ends.ensures
+            (c.in_ok-put_total.ensures ∙ ap₂ (λ (n m : ℕ). c.put_ends.new.text.items ++ total_line n m) told.1.2 told.1.3),
       ),
     )

@@ -4,7 +4,8 @@ use Rattle.plan_checker.specs.declared.verdict.Verdict.{Verdict}
 use Rattle.ras_answers.specs.Answered.{seen}
 use Rattle.ras_answers.specs.Move.{MovesTo}
 use Rattle.ras_answers.specs.Target.{ByVerdict}
-use Rattle.ras_answers.proofs.TargetLemmas.{by-no, target-fits, target-serves}
+use Rattle.plan_checker.proofs.TargetFacts.{target-fits, target-serves}
+use Rattle.ras_answers.proofs.TargetLemmas.{by-no}
 use Rattle.ras_answers.proofs.moves.moves_answer.Goals as goal
 
 pub moves_to-requires : goal.moves_to-requires

@@ -4,7 +4,8 @@ use Rattle.plan_checker.specs.declared.verdict.Verdict.{Verdict}
 use Rattle.ras_answers.specs.Answered.{seen}
 use Rattle.ras_answers.specs.Spare.{ReplacesFrom}
 use Rattle.ras_answers.specs.Target.{ByVerdict}
-use Rattle.ras_answers.proofs.TargetLemmas.{by-no, target-fits, target-serves}
+use Rattle.plan_checker.proofs.TargetFacts.{target-fits, target-serves}
+use Rattle.ras_answers.proofs.TargetLemmas.{by-no}
 use Rattle.ras_answers.proofs.spares.spares_answer.Goals as goal
 
 pub replaces_from-requires : goal.replaces_from-requires

@@ -1,0 +1,5 @@
+pub mod EscapeLemmas
+pub mod RankLemmas
+pub mod SpotLemmas
+pub mod TextLemmas
+pub mod ViewLemmas

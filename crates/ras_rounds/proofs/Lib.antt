@@ -1,0 +1,16 @@
+pub mod AfterRule
+pub mod AfterOnce
+pub mod PlacesMore
+pub mod ScriptFacts
+pub mod ScriptWithin
+pub mod Grouped
+pub mod Mended
+pub mod Flags
+pub mod Unchanged
+pub mod Cleared
+pub mod Touched
+pub mod Mending
+pub mod SortedTable
+pub mod WholeMend
+pub mod MendSteps
+pub mod CarryFacts
